@@ -1,0 +1,122 @@
+# The library and what is run around it. `make help` lists the targets.
+
+CC      = gcc
+CXX     = g++
+CFLAGS  = -std=c99 -Wall -Wextra -Wconversion -Werror -O2
+LIB     = build/libtumbeliko.a
+SEED    =
+
+# The archive is for x86-64 Linux. Elsewhere its users are built by a cross compiler and run by an emulator
+# (tests/tools.sh installs both), unless LIB names another archive.
+ifneq ($(shell uname -m),x86_64)
+ifeq ($(origin LIB),file)
+CC      = x86_64-linux-gnu-gcc
+RUN     = qemu-x86_64-static
+LINK    = -static
+NOTE    = ; echo "(under an emulator: these times say nothing)"
+TOOLS   = tools
+endif
+endif
+
+CRATES    = crates.txt $(wildcard crates/*/src/*.rt crates/*/specs/*.antt crates/*/proofs/*.antt crates/*/proofs/*/*.antt)
+REFERENCE = tests/reference/hash.c tests/reference/code.c tests/reference/board.c
+HARNESS   = tests/harness.c
+HEADERS   = include/tumbeliko.h tests/harness.h tests/reference/reference.h bench/plain.h
+BUILD     = $(CC) $(CFLAGS) $(CPPFLAGS) -Iinclude -Itests $(LINK)
+
+# Is there a header $(1), and does it link with $(2)?
+have = $(shell printf '\043include <$(1)>\nint main(void) { return 0; }\n' | \
+    $(CC) $(CPPFLAGS) $(LINK) $(LDFLAGS) -x c - $(2) -o /dev/null 2>/dev/null && echo yes)
+KNOWN = $(if $(call have,openssl/sha.h,-lcrypto),-DHAVE_OPENSSL -lcrypto) \
+        $(if $(call have,bearssl.h,-lbearssl),-DHAVE_BEARSSL -lbearssl) \
+        $(if $(call have,isa-l/erasure_code.h,-lisal),-DHAVE_ISAL -lisal)
+
+.PHONY: help test lib demo bench stack clean tools library-test header-test reference-test vectors-test ground-test
+
+help:
+	@echo "make test     everything: the prover's gate, then the tests in C against the library"
+	@echo "make demo     a message cut into fragments and rebuilt from some of them"
+	@echo "make lib      prove the library and write build/libtumbeliko.a"
+	@echo "make bench    times beside plain C and known libraries, and the stack of each call"
+	@echo "make stack    the stack of each call alone"
+	@echo "make clean    remove build/ and target/"
+	@echo
+	@echo "one part of the tests: library-test header-test reference-test vectors-test ground-test"
+	@echo "SEED=number   other random bytes for the tests in C"
+	@echo "LIB=path      another archive"
+
+test:
+	@sh tests/run.sh
+
+tools:
+	@sh tests/tools.sh > /dev/null
+
+build:
+	@mkdir -p build
+
+build/libtumbeliko.a: $(CRATES) | build
+	@echo "proving the library (minutes, where nothing is proved yet); the prover's words go to build/staticlib.log"
+	@rt staticlib tumbeliko > build/staticlib.log 2>&1 || { tail -n 40 build/staticlib.log; exit 1; }
+	@cp target/staticlib/libtumbeliko.a $@
+
+lib: build/libtumbeliko.a
+	@echo "the library is build/libtumbeliko.a, its header include/tumbeliko.h"
+
+build/ground-test: tests/ground.c $(HARNESS) $(REFERENCE) $(HEADERS) $(LIB) | build $(TOOLS)
+	@echo "building $@ with $(LIB)"
+	@$(BUILD) tests/ground.c $(HARNESS) $(REFERENCE) $(LIB) $(LDFLAGS) -o $@
+
+build/reference-test: tests/reference/trial.c $(HARNESS) $(REFERENCE) $(HEADERS) | build $(TOOLS)
+	@echo "building $@"
+	@$(BUILD) tests/reference/trial.c $(HARNESS) $(REFERENCE) $(LDFLAGS) -o $@
+
+build/vectors-test: tests/vectors.c $(HARNESS) $(HEADERS) $(LIB) | build $(TOOLS)
+	@echo "building $@ with $(LIB)"
+	@$(BUILD) tests/vectors.c $(HARNESS) $(LIB) $(LDFLAGS) -o $@
+
+build/bench: bench/bench.c bench/plain.c $(HEADERS) $(LIB) | build $(TOOLS)
+	@echo "building $@ with $(LIB), and known libraries: $(or $(filter -l%,$(KNOWN)),none)"
+	@$(BUILD) $(filter -D%,$(KNOWN)) bench/bench.c bench/plain.c $(LIB) $(LDFLAGS) $(filter -l%,$(KNOWN)) -o $@
+
+build/stack: bench/stack.c $(HEADERS) $(LIB) | build $(TOOLS)
+	@echo "building $@ with $(LIB)"
+	@$(BUILD) bench/stack.c $(LIB) $(LDFLAGS) -o $@
+
+build/demo: examples/ground.c $(HEADERS) $(LIB) | build $(TOOLS)
+	@echo "building $@ with $(LIB)"
+	@$(BUILD) examples/ground.c $(LIB) $(LDFLAGS) -o $@
+
+library-test: lib
+	@nm $(LIB) 2>/dev/null | grep -q ' T tumbeliko_hash$$'
+	@echo "1 passed, 0 failed"
+
+header-test:
+	@echo "the header alone, as C and as C++"
+	@$(CC) $(CFLAGS) -pedantic -fsyntax-only -x c include/tumbeliko.h
+	@if command -v $(CXX) >/dev/null; then $(CXX) -Wall -Wextra -Wconversion -Werror -pedantic \
+	    -fsyntax-only -x c++ include/tumbeliko.h; else echo "$(CXX) is not here: not tried as C++"; fi
+	@echo "1 passed, 0 failed"
+
+reference-test: build/reference-test
+	@$(RUN) build/reference-test $(SEED)
+
+vectors-test: build/vectors-test
+	@$(RUN) build/vectors-test
+
+ground-test: build/ground-test
+	@$(RUN) build/ground-test $(SEED)
+
+bench: build/bench stack
+	@echo "times, the best of many"
+	@$(RUN) build/bench$(NOTE)
+
+stack: build/stack
+	@echo "stack of each call, painted"
+	@$(RUN) build/stack
+
+demo: build/demo
+	@$(RUN) build/demo
+
+clean:
+	@rm -rf build target
+	@echo "build/ and target/ are gone"

@@ -1,0 +1,412 @@
+/*
+ * The speed of each call, beside plain C and known libraries on the same
+ * input in the same run. Prints a Markdown table; each time is the best of
+ * many. Answers are compared before anything is timed.
+ *
+ * Libraries are used as far as they were found: HAVE_OPENSSL, HAVE_BEARSSL
+ * and HAVE_ISAL are set by the Makefile.
+ */
+
+#define _DEFAULT_SOURCE
+
+#include <stdio.h>
+#include <stdlib.h>
+#include <string.h>
+#include <time.h>
+#include <unistd.h>
+#include "plain.h"
+#include "tumbeliko.h"
+
+#ifdef HAVE_OPENSSL
+#include <openssl/sha.h>
+#endif
+#ifdef HAVE_BEARSSL
+#include <bearssl.h>
+#endif
+#ifdef HAVE_ISAL
+#include <isa-l/erasure_code.h>
+#endif
+
+#define LONGEST 16384
+
+/* ---- what the calls work on */
+
+static uint8_t message[LONGEST], data[65536];
+static uint8_t area[60000], root[32], paths[64 * 192], block[17000], back[LONGEST], lengths[128];
+static uint8_t other_area[60000], other_root[32], other_paths[64 * 192], other_block[17000], other_back[LONGEST];
+static uint8_t digest[32];
+static uint8_t who[64];
+static size_t data_len, who_count, s_max, k, fragment_len, block_len, fragment_stands;
+static uint32_t n, t;
+static uint64_t marked;
+static volatile uint32_t kept;
+
+static void set_table(uint32_t boards, uint32_t faulty)
+{
+    n = boards;
+    t = faulty;
+    k = TUMBELIKO_K(n, t);
+    s_max = TUMBELIKO_S_MAX(n, t, LONGEST);
+}
+
+/* Marks the `count` highest boards. */
+static void mark(size_t count)
+{
+    who_count = count;
+    marked = 0;
+    for (size_t i = 0; i < count; i++) {
+        who[i] = (uint8_t)(n - count + i + 1);
+        marked |= (uint64_t)1 << (who[i] - 1);
+    }
+}
+
+/* ---- the library and plain C */
+
+static void our_hash(void)      { kept = tumbeliko_hash(data, data_len).bytes[0]; }
+static void simple_hash(void)   { plain_hash(data, data_len, digest); }
+
+static void our_path(void)
+{
+    kept = tumbeliko_path_correct(64, 28, root, 32, paths + 27 * 192, 192, area + fragment_stands, fragment_len);
+}
+
+static void simple_path(void)
+{
+    kept = plain_path_correct(plain_hash, 64, 28, root, paths + 27 * 192, 6, area + fragment_stands, fragment_len);
+}
+
+static void our_encode(void)
+{
+    kept = tumbeliko_encode(n, t, 1, LONGEST, message, LONGEST, area, sizeof area, root, 32,
+                            paths, sizeof paths).length;
+}
+
+static void simple_encode(void)
+{
+    size_t length = plain_fragments(message, LONGEST, n, k, s_max, other_area);
+
+    plain_tree(plain_hash, other_area, s_max, length, n, other_root, other_paths);
+}
+
+static void our_rebuild(void)
+{
+    kept = tumbeliko_rebuild(n, t, 1, LONGEST, marked, lengths, sizeof lengths, area, sizeof area,
+                             block, sizeof block).length;
+}
+
+static void simple_rebuild(void)
+{
+    kept = plain_rebuild(who, who_count, k, fragment_len, s_max, area, other_block);
+}
+
+static void our_read(void)
+{
+    kept = tumbeliko_read_block(n, t, 1, LONGEST, block, block_len, back, sizeof back).length;
+}
+
+static void simple_read(void)
+{
+    kept = (uint32_t)plain_read_block(block, block_len, k, LONGEST, other_back);
+}
+
+/* ---- known libraries */
+
+#ifdef HAVE_OPENSSL
+static void openssl_one(const uint8_t *bytes, size_t len, uint8_t *to) { SHA256(bytes, len, to); }
+static void openssl_hash(void) { openssl_one(data, data_len, digest); }
+
+static void openssl_path(void)
+{
+    kept = plain_path_correct(openssl_one, 64, 28, root, paths + 27 * 192, 6, area + fragment_stands, fragment_len);
+}
+#define BEST_HASH openssl_one
+#define BEST_NAME "ISA-L, OpenSSL"
+#else
+#define BEST_HASH plain_hash
+#define BEST_NAME "ISA-L, plain C hash"
+#endif
+
+#ifdef HAVE_BEARSSL
+static void bearssl_hash(void)
+{
+    br_sha256_context c;
+
+    br_sha256_init(&c);
+    br_sha256_update(&c, data, data_len);
+    br_sha256_out(&c, digest);
+}
+#endif
+
+#ifdef HAVE_ISAL
+static uint8_t matrix[64 * 64], inverted[64 * 64], tables[64 * 64 * 32], columns[64][16388];
+
+static void powers_of(const uint8_t *elements, size_t count)
+{
+    for (size_t i = 0; i < count; i++) {
+        uint8_t power = 1;
+
+        for (size_t j = 0; j < k; j++) {
+            matrix[i * k + j] = power;
+            power = gf_mul(power, elements[i]);
+        }
+    }
+}
+
+static void isal_encode(void)
+{
+    size_t rows = plain_block(message, LONGEST, k, other_block);
+    uint8_t *from[64], *to[64], elements[64];
+
+    for (size_t j = 0; j < k; j++) {
+        from[j] = columns[j];
+        for (size_t c = 0; c < rows; c++)
+            columns[j][c] = other_block[c * k + j];
+    }
+    for (size_t i = 0; i < n; i++) {
+        elements[i] = (uint8_t)(i + 1);
+        to[i] = other_area + i * s_max;
+    }
+    powers_of(elements, n);
+    ec_init_tables((int)k, (int)n, matrix, tables);
+    ec_encode_data((int)rows, (int)k, (int)n, tables, from, to);
+    plain_tree(BEST_HASH, other_area, s_max, rows, n, other_root, other_paths);
+}
+
+/* From the k lowest of the marked; the others must be what these give. */
+static void isal_rebuild(void)
+{
+    static uint8_t again[64][16388];
+    uint8_t *from[64], *to[64];
+
+    for (size_t i = 0; i < k; i++) {
+        from[i] = area + (who[i] - 1u) * s_max;
+        to[i] = columns[i];
+    }
+    powers_of(who, k);
+    gf_invert_matrix(matrix, inverted, (int)k);
+    ec_init_tables((int)k, (int)k, inverted, tables);
+    ec_encode_data((int)fragment_len, (int)k, (int)k, tables, from, to);
+    if (who_count > k) {
+        uint8_t *rest[64];
+
+        for (size_t i = 0; i < who_count - k; i++)
+            rest[i] = again[i];
+        powers_of(who + k, who_count - k);
+        ec_init_tables((int)k, (int)(who_count - k), matrix, tables);
+        ec_encode_data((int)fragment_len, (int)k, (int)(who_count - k), tables, to, rest);
+        for (size_t i = 0; i < who_count - k; i++)
+            if (memcmp(again[i], area + (who[k + i] - 1u) * s_max, fragment_len) != 0)
+                return;
+    }
+    for (size_t j = 0; j < k; j++)
+        for (size_t c = 0; c < fragment_len; c++)
+            other_block[c * k + j] = columns[j][c];
+}
+#endif
+
+/* ---- times */
+
+static double now(void)
+{
+    struct timespec time;
+
+    clock_gettime(CLOCK_PROCESS_CPUTIME_ID, &time);
+    return (double)time.tv_sec * 1e6 + (double)time.tv_nsec * 1e-3;
+}
+
+#define TURNS   25
+#define TURN_US 3000
+
+/* The best time of each of three calls, in turns, in microseconds. */
+static void best(void (*const calls[3])(void), double us[3])
+{
+    long reps[3] = { 0, 0, 0 };
+
+    for (int turn = 0; turn < TURNS; turn++)
+        for (int c = 0; c < 3; c++) {
+            double start, spent;
+
+            if (calls[c] == NULL)
+                continue;
+            if (reps[c] == 0) {                 /* how many fill a turn */
+                start = now();
+                do {
+                    calls[c]();
+                    reps[c]++;
+                } while (now() - start < TURN_US);
+                us[c] = (now() - start) / (double)reps[c];
+            }
+            start = now();
+            for (long r = 0; r < reps[c]; r++)
+                calls[c]();
+            spent = (now() - start) / (double)reps[c];
+            if (spent < us[c])
+                us[c] = spent;
+        }
+}
+
+static void row(const char *call, const char *input, void (*ours)(void), void (*simple)(void),
+                void (*library)(void), const char *name)
+{
+    void (*const calls[3])(void) = { ours, simple, library };
+    double us[3] = { 0, 0, 0 };
+
+    best(calls, us);
+    printf("| %s | %s | %.2f | %.2f | %.2f |", call, input, us[0], us[1], us[0] / us[1]);
+    if (library == NULL)
+        printf(" - | - |\n");
+    else
+        printf(" %.2f (%s) | %.2f |\n", us[2], name, us[0] / us[2]);
+    fflush(stdout);
+}
+
+static void must(bool fact, const char *what)
+{
+    if (!fact) {
+        fprintf(stderr, "bench: answers differ: %s\n", what);
+        exit(1);
+    }
+}
+
+/* ---- rows */
+
+static void hash_rows(const char *openssl_name, bool bearssl_too)
+{
+    static const size_t sizes[] = { 65, 65536 };
+    static const char *const names[] = { "65 B", "64 KiB" };
+
+    for (int i = 0; i < 2; i++) {
+        tumbeliko_digest ours;
+        void (*openssl)(void) = NULL;
+
+        data_len = sizes[i];
+        ours = tumbeliko_hash(data, data_len);
+        simple_hash();
+        must(ours.number == 0 && memcmp(ours.bytes, digest, 32) == 0, "hash, plain C");
+#ifdef HAVE_OPENSSL
+        openssl_hash();
+        must(memcmp(ours.bytes, digest, 32) == 0, "hash, OpenSSL");
+        openssl = openssl_hash;
+#endif
+        row("hash", names[i], our_hash, simple_hash, openssl, openssl_name);
+#ifdef HAVE_BEARSSL
+        if (bearssl_too) {
+            bearssl_hash();
+            must(memcmp(ours.bytes, digest, 32) == 0, "hash, BearSSL");
+            row("hash", names[i], our_hash, simple_hash, bearssl_hash, "BearSSL");
+        }
+#else
+        (void)bearssl_too;
+#endif
+    }
+}
+
+static void path_row(void)
+{
+    void (*library)(void) = NULL;
+
+    set_table(64, 21);
+    our_encode();
+    fragment_len = kept;
+    fragment_stands = 27 * s_max;
+    our_path();
+    must(kept == 1, "path check");
+    simple_path();
+    must(kept == 1, "path check, plain C");
+#ifdef HAVE_OPENSSL
+    openssl_path();
+    must(kept == 1, "path check, OpenSSL");
+    library = openssl_path;
+#endif
+    row("path check", "n 64, fragment 745 B", our_path, simple_path, library, "OpenSSL");
+}
+
+static void code_rows(void)
+{
+    static const uint32_t tables_of[][2] = { { 4, 1 }, { 7, 2 }, { 64, 21 } };
+    char input[60];
+
+    for (int i = 0; i < 3; i++) {
+        void (*library)(void) = NULL;
+
+        set_table(tables_of[i][0], tables_of[i][1]);
+        memset(area, 0, sizeof area);
+        memset(other_area, 0, sizeof other_area);
+        memset(paths, 0, sizeof paths);
+        memset(other_paths, 0, sizeof other_paths);
+        our_encode();
+        simple_encode();
+        must(memcmp(area, other_area, sizeof area) == 0 && memcmp(root, other_root, 32) == 0
+             && memcmp(paths, other_paths, sizeof paths) == 0, "encode, plain C");
+#ifdef HAVE_ISAL
+        memset(other_area, 0, sizeof other_area);
+        memset(other_paths, 0, sizeof other_paths);
+        isal_encode();
+        must(memcmp(area, other_area, sizeof area) == 0 && memcmp(root, other_root, 32) == 0
+             && memcmp(paths, other_paths, sizeof paths) == 0, "encode, ISA-L");
+        library = isal_encode;
+#endif
+        snprintf(input, sizeof input, "16,384 B, n %u, t %u", n, t);
+        row("encode", input, our_encode, simple_encode, library, BEST_NAME);
+    }
+    for (int i = 0; i < 6; i++) {
+        void (*library)(void) = NULL;
+
+        set_table(tables_of[i / 2][0], tables_of[i / 2][1]);
+        our_encode();
+        fragment_len = kept;
+        for (size_t b = 0; b < n; b++) {
+            lengths[2 * b] = (uint8_t)(fragment_len >> 8);
+            lengths[2 * b + 1] = (uint8_t)fragment_len;
+        }
+        mark(i % 2 ? n : k);
+        memset(block, 0, sizeof block);
+        memset(other_block, 0, sizeof other_block);
+        our_rebuild();
+        block_len = kept;
+        must(block_len == k * fragment_len, "rebuild");
+        simple_rebuild();
+        must(memcmp(block, other_block, sizeof block) == 0, "rebuild, plain C");
+#ifdef HAVE_ISAL
+        memset(other_block, 0, sizeof other_block);
+        isal_rebuild();
+        must(memcmp(block, other_block, sizeof block) == 0, "rebuild, ISA-L");
+        library = isal_rebuild;
+#endif
+        snprintf(input, sizeof input, "16,384 B, n %u, t %u, from %zu", n, t, who_count);
+        row("rebuild", input, our_rebuild, simple_rebuild, library, "ISA-L");
+    }
+    our_read();
+    must(kept == LONGEST && memcmp(back, message, LONGEST) == 0, "read block");
+    simple_read();
+    must(kept == LONGEST && memcmp(other_back, message, LONGEST) == 0, "read block, plain C");
+    row("read block", "16,384 B", our_read, simple_read, NULL, NULL);
+}
+
+int main(int argc, char **argv)
+{
+    bool switched_off = argc > 1 && strcmp(argv[1], "--openssl-without-sha-instructions") == 0;
+
+    for (size_t i = 0; i < sizeof data; i++)
+        data[i] = (uint8_t)(i * 7 + i / 251);
+    for (size_t i = 0; i < sizeof message; i++)
+        message[i] = (uint8_t)(i * 13 + i / 239);
+    plain_begin();
+    if (switched_off) {
+        hash_rows("OpenSSL, no SHA instructions", false);
+        return 0;
+    }
+    printf("| call | input | tumbeliko µs | plain C µs | ratio | library µs | ratio |\n");
+    printf("|---|---|---:|---:|---:|---:|---:|\n");
+    hash_rows("OpenSSL", true);
+    path_row();
+    code_rows();
+#ifdef HAVE_OPENSSL
+    /* OpenSSL looks at these once, when it starts */
+    setenv("OPENSSL_ia32cap", ":~0x20000000", 1);
+    setenv("OPENSSL_armcap", "1", 1);
+    execv("/proc/self/exe", (char *[]){ argv[0], "--openssl-without-sha-instructions", NULL });
+    perror("bench: OpenSSL without SHA instructions is not timed");
+#endif
+    return 0;
+}

@@ -1,0 +1,228 @@
+/*
+ * The stack that each call takes: the call runs on a stack of its own,
+ * painted before it, and the deepest byte that lost its paint tells. What
+ * the way to the call takes itself is measured by a call of nothing and
+ * subtracted. Bytes that a call reserves and never writes do not show.
+ */
+
+#define _DEFAULT_SOURCE
+
+#include <stdio.h>
+#include <stdlib.h>
+#include <string.h>
+#include <sys/mman.h>
+#include <ucontext.h>
+#include "tumbeliko.h"
+
+#define STACK   (256 * 1024)
+#define PAINT   0xa5
+#define LONGEST 16384
+
+static uint8_t *stack;
+static ucontext_t here, there;
+static void (*job)(void);
+
+static void entry(void)
+{
+    job();
+}
+
+/* How many bytes of the stack lose their paint while `what` runs on it. */
+static size_t painted(void (*what)(void))
+{
+    size_t clean = 0;
+
+    job = what;
+    job();                      /* once before: what is bound late is bound now */
+    memset(stack, PAINT, STACK);
+    getcontext(&there);
+    there.uc_stack.ss_sp = stack;
+    there.uc_stack.ss_size = STACK;
+    there.uc_link = &here;
+    makecontext(&there, entry, 0);
+    swapcontext(&here, &there);
+    while (clean < STACK && stack[clean] == PAINT)
+        clean++;
+    return STACK - clean;
+}
+
+/* ---- the calls, each through a pointer that may point to nothing's call */
+
+static uint8_t data[65536], message[LONGEST], area[60000], root[32], paths[64 * 192], block[17000], back[LONGEST];
+static uint8_t lengths[128];
+static size_t len, nodes, fragment_len, block_len;
+static uint32_t n, t;
+static uint64_t marked;
+static volatile uint32_t kept;
+
+static tumbeliko_digest no_hash(const uint8_t *d, size_t dl)
+{
+    static const tumbeliko_digest nothing;
+
+    (void)d, (void)dl;
+    return nothing;
+}
+
+static bool no_path(uint32_t a, uint32_t b, const uint8_t *r, size_t rl, const uint8_t *p, size_t pl,
+                    const uint8_t *f, size_t fl)
+{
+    (void)a, (void)b, (void)r, (void)rl, (void)p, (void)pl, (void)f, (void)fl;
+    return false;
+}
+
+static tumbeliko_sized no_encode(uint32_t a, uint32_t b, uint32_t c, uint32_t d, const uint8_t *m, size_t ml,
+                                 uint8_t *e, size_t el, uint8_t *r, size_t rl, uint8_t *p, size_t pl)
+{
+    static const tumbeliko_sized nothing;
+
+    (void)a, (void)b, (void)c, (void)d, (void)m, (void)ml, (void)e, (void)el, (void)r, (void)rl, (void)p, (void)pl;
+    return nothing;
+}
+
+static tumbeliko_sized no_rebuild(uint32_t a, uint32_t b, uint32_t c, uint32_t d, uint64_t s, const uint8_t *l,
+                                  size_t ll, const uint8_t *e, size_t el, uint8_t *k, size_t kl)
+{
+    static const tumbeliko_sized nothing;
+
+    (void)a, (void)b, (void)c, (void)d, (void)s, (void)l, (void)ll, (void)e, (void)el, (void)k, (void)kl;
+    return nothing;
+}
+
+static tumbeliko_sized no_read(uint32_t a, uint32_t b, uint32_t c, uint32_t d, const uint8_t *k, size_t kl,
+                               uint8_t *m, size_t ml)
+{
+    static const tumbeliko_sized nothing;
+
+    (void)a, (void)b, (void)c, (void)d, (void)k, (void)kl, (void)m, (void)ml;
+    return nothing;
+}
+
+static tumbeliko_digest (*volatile hash)(const uint8_t *, size_t);
+static bool (*volatile path_correct)(uint32_t, uint32_t, const uint8_t *, size_t, const uint8_t *, size_t,
+                                     const uint8_t *, size_t);
+static tumbeliko_sized (*volatile encode)(uint32_t, uint32_t, uint32_t, uint32_t, const uint8_t *, size_t,
+                                          uint8_t *, size_t, uint8_t *, size_t, uint8_t *, size_t);
+static tumbeliko_sized (*volatile rebuild)(uint32_t, uint32_t, uint32_t, uint32_t, uint64_t, const uint8_t *, size_t,
+                                           const uint8_t *, size_t, uint8_t *, size_t);
+static tumbeliko_sized (*volatile read_block)(uint32_t, uint32_t, uint32_t, uint32_t, const uint8_t *, size_t,
+                                              uint8_t *, size_t);
+
+static void all_real(void)
+{
+    hash = tumbeliko_hash;
+    path_correct = tumbeliko_path_correct;
+    encode = tumbeliko_encode;
+    rebuild = tumbeliko_rebuild;
+    read_block = tumbeliko_read_block;
+}
+
+static void all_empty(void)
+{
+    hash = no_hash;
+    path_correct = no_path;
+    encode = no_encode;
+    rebuild = no_rebuild;
+    read_block = no_read;
+}
+
+static void run_hash(void)
+{
+    kept = hash(data, len).number;
+}
+
+static void run_path(void)
+{
+    kept = path_correct(n, 1, root, 32, paths, 32 * nodes, area, fragment_len);
+}
+
+static void run_encode(void)
+{
+    kept = encode(n, t, 1, LONGEST, message, len, area, sizeof area, root, 32, paths, sizeof paths).length;
+}
+
+static void run_rebuild(void)
+{
+    kept = rebuild(n, t, 1, LONGEST, marked, lengths, sizeof lengths, area, sizeof area, block, sizeof block).length;
+}
+
+static void run_read(void)
+{
+    kept = read_block(n, t, 1, LONGEST, block, block_len, back, sizeof back).length;
+}
+
+/* The call's own bytes: its return address and all below it. */
+static size_t used(void (*run)(void))
+{
+    size_t empty, whole;
+
+    all_empty();
+    empty = painted(run);
+    all_real();
+    whole = painted(run);
+    return whole > empty ? whole - empty + sizeof(void *) : 0;
+}
+
+static size_t worst;
+
+static void line(const char *call, const char *input, void (*run)(void))
+{
+    size_t bytes = used(run);
+
+    if (bytes > worst)
+        worst = bytes;
+    printf("| %s | %s | %zu |\n", call, input, bytes);
+}
+
+int main(void)
+{
+    static const size_t lengths_to_hash[] = { 0, 55, 56, 64, 65, 1000, 65536 };
+    static const uint32_t tables[][2] = { { 1, 0 }, { 4, 1 }, { 7, 2 }, { 64, 0 }, { 64, 21 } };
+    char input[60];
+
+    stack = mmap(NULL, STACK, PROT_READ | PROT_WRITE, MAP_PRIVATE | MAP_ANONYMOUS, -1, 0);
+    if (stack == MAP_FAILED) {
+        perror("stack: cannot make a stack");
+        return 1;
+    }
+    for (size_t i = 0; i < sizeof message; i++)
+        message[i] = (uint8_t)(i * 11 + i / 253);
+    printf("| call | input | stack, bytes |\n|---|---|---:|\n");
+    for (int i = 0; i < 7; i++) {
+        len = lengths_to_hash[i];
+        snprintf(input, sizeof input, "%zu B", len);
+        line("hash", input, run_hash);
+    }
+    for (int i = 0; i < 5; i++) {
+        n = tables[i][0];
+        t = tables[i][1];
+        len = LONGEST;
+        snprintf(input, sizeof input, "16,384 B, n %u, t %u", n, t);
+        line("encode", input, run_encode);
+        run_encode();
+        fragment_len = kept;
+        for (size_t b = 0; b < n; b++) {
+            lengths[2 * b] = (uint8_t)(fragment_len >> 8);
+            lengths[2 * b + 1] = (uint8_t)fragment_len;
+        }
+        for (nodes = 0; (uint32_t)1 << nodes < n; nodes++)
+            continue;
+        run_path();
+        if (kept != 1)
+            printf("the path of board 1 is not correct: the stack of a refusal is shown\n");
+        snprintf(input, sizeof input, "%zu B, n %u", fragment_len, n);
+        line("path check", input, run_path);
+        marked = ((uint64_t)1 << (n - 2 * t - 1) << 1) - 1;
+        snprintf(input, sizeof input, "16,384 B, n %u, t %u, from %u", n, t, n - 2 * t);
+        line("rebuild", input, run_rebuild);
+        marked = ((uint64_t)1 << (n - 1) << 1) - 1;
+        snprintf(input, sizeof input, "16,384 B, n %u, t %u, from %u", n, t, n);
+        if (t > 0)
+            line("rebuild", input, run_rebuild);
+        run_rebuild();
+        block_len = kept;
+        snprintf(input, sizeof input, "16,384 B, n %u, t %u", n, t);
+        line("read block", input, run_read);
+    }
+    printf("\nThe most: %zu bytes.\n", worst);
+    return 0;
+}

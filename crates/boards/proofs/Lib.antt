@@ -1,0 +1,2 @@
+-- Laws of the table, for the crates above.
+pub mod Within

@@ -1,0 +1,2 @@
+-- What the contracts of `boards` cite.
+pub mod Table

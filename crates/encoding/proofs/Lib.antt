@@ -1,0 +1,2 @@
+-- Laws of encoding by columns.
+pub mod Patches

@@ -1,0 +1,75 @@
+-- `encoding::gather_any` meets its contract. The loop's invariant: i bytes are gathered.
+-- Assumes nothing.
+use mathlib.Core.Path.{_≡_}
+use mathlib.Core.List.{_++_}
+use Prim.Native.Nat.{_+_, _-_, _*_, _≤_}
+use native.Mathlib.Nat as N
+use native.Mathlib.Omega.{arith}
+use lib.ListN.{length, getD}
+use Rattle.octets.proofs.Walk.{Walked, start, next}
+use Rattle.code.specs.Block.{header}
+use Rattle.encoding.proofs.gather_any.Statement.{statement}
+use Rattle.encoding.proofs.gather_any.Tie as tie
+
+abbrev Inv-loop : tie.InvT-loop
+Inv-loop message k from n column₀ i₀ column i = (i ≤ n) × Walked (λ j v. v ≡ getD (header (length message) ++ message) (from + j * k) 0) column₀ i column
+
+abbrev μ-loop : tie.MeasureT-loop
+μ-loop message k from n column₀ i₀ column i = n - i
+
+loop-holds : tie.Need-loop-holds Inv-loop μ-loop
+loop-holds c = (omega arith, start _ _ _ (λ k h. absurd (omega arith)))
+
+mul-block-byte : tie.Need-mul-block-byte Inv-loop μ-loop
+mul-block-byte c =
+    let a = c .before .before .before .before .args in
+    let l = c .before .loop in
+    let h : l .i ≤ 16388 = omega arith in
+    omega (arith, N.mul-le-mul-right (a .k) h)
+
+add-block-byte : tie.Need-add-block-byte Inv-loop μ-loop
+add-block-byte c =
+    let a = c .before .before .before .before .args in
+    let l = c .before .loop in
+    let h : l .i ≤ 16388 = omega arith in
+    omega (arith, N.mul-le-mul-right (a .k) h)
+
+block-byte-requires : tie.Need-block-byte-requires Inv-loop μ-loop
+block-byte-requires c κs = c .before .before .before .before .pre .0
+
+slice-write-column : tie.Need-slice-write-column Inv-loop μ-loop
+slice-write-column c = omega arith
+
+add-i : tie.Need-add-i Inv-loop μ-loop
+add-i c = omega arith
+
+loop-less : tie.Need-loop-less Inv-loop μ-loop
+loop-less c = omega arith
+
+loop-again : tie.Need-loop-again Inv-loop μ-loop
+loop-again c =
+    let l = c .before .before .loop in
+    (omega arith, next _ _ (l .i) (l .column) (c .block-byte .result) (l .inv .1) (omega arith) (c .block-byte .ensures))
+
+same-length : tie.Need-same-length Inv-loop μ-loop
+same-length c = c .before .loop .inv .1 .size
+
+returns : tie.Need-returns Inv-loop μ-loop
+returns c = λ i h. c .before .loop .inv .1 .done i (omega arith)
+
+pub gather-any-spec : {M : Type 1} → statement M
+gather-any-spec =
+    tie.close
+    (tie.spec
+    Inv-loop
+    μ-loop
+    loop-holds
+    mul-block-byte
+    add-block-byte
+    block-byte-requires
+    slice-write-column
+    add-i
+    loop-less
+    loop-again
+    same-length
+    returns)

@@ -1,0 +1,3 @@
+-- What the contracts of `field`, and of the crates above it, cite.
+pub mod Field
+pub mod Tables

@@ -1,0 +1,5 @@
+-- What a call that is not refused knows.
+pub mod Firsts
+pub mod Taken
+pub mod Promises
+pub mod RoundTrip

@@ -1,0 +1,263 @@
+-- Sums of weighted bytes: the coefficients of the row that takes given values at the points.
+-- Assumes nothing.
+use mathlib.Core.Path.{_≡_, refl, sym, ap, ap₂, _∙_, subst}
+use mathlib.Core.Logic.{_≢_, _⊎_, inl, inr, ⊎-elim}
+use mathlib.Core.List.{List, [], _∷_, _++_}
+use Prim.Native.Nat.{ℕ, zero, suc, _+_, _-_, _<_, _≤_}
+use native.Mathlib.Nat as N
+use native.Mathlib.Omega.{arith}
+use lib.ListN.{length, getD, drop, length-drop, length-append, drop-of-length-le, List·getD-append, List·getD-eq-default}
+use lib.Seq.{drop-cons, drop-length, drop-at, getD-drop}
+use Rattle.field.specs.Field.{add, mul}
+use Rattle.field.proofs.Laws as L
+use Rattle.field.proofs.Powers as W
+use Rattle.code.specs.Code.{All, Byte, Apart, value}
+use Rattle.rebuilding.specs.Fits.{Attached}
+use Rattle.rebuilding.proofs.Newton.{newton, Expanded}
+use Rattle.code.proofs.Polynomials.{eval, factor, roots, zero≢suc, suc-injective}
+use Rattle.code.proofs.Polynomials as P
+use Rattle.code.proofs.Editions.{bytes, value-eval}
+use Rattle.octets.proofs.Walk.{lt-or-le}
+use Rattle.code.proofs.Lists.{all-of, distinct-of, all-drop}
+use Rattle.rebuilding.specs.Sums.{total, quot, Master, Scales}
+
+-- ---- sums
+
+pub total-same : (f g : ℕ → ℕ) (n : ℕ) → ((j : ℕ) → j < n → f j ≡ g j) → total f n ≡ total g n
+unfolding total
+total-same f g zero h = refl
+total-same f g (suc n) h = ap₂ add (total-same f g n (λ j b. h j (omega arith))) (h n (omega arith))
+
+total-zero : (f : ℕ → ℕ) (n : ℕ) → ((j : ℕ) → j < n → f j ≡ 0) → total f n ≡ 0
+unfolding total
+total-zero f zero h = refl
+total-zero f (suc n) h = ap₂ add (total-zero f n (λ j b. h j (omega arith))) (h n (omega arith)) ∙ L.add-self 0
+
+total-add : (f g : ℕ → ℕ) (n : ℕ) → add (total f n) (total g n) ≡ total (λ j. add (f j) (g j)) n
+unfolding total
+total-add f g zero = L.add-self 0
+total-add f g (suc n) = L.add-swap (total f n) (f n) (total g n) (g n) ∙ ap (λ (t : ℕ). add t (add (f n) (g n))) (total-add f g n)
+
+total-mul : (z : ℕ) (f : ℕ → ℕ) (n : ℕ) → mul z (total f n) ≡ total (λ j. mul z (f j)) n
+unfolding total
+total-mul z f zero = L.zero-mul-r z
+total-mul z f (suc n) = L.mul-add z (total f n) (f n) ∙ ap (λ (t : ℕ). add t (mul z (f n))) (total-mul z f n)
+
+pub total-lt : (f : ℕ → ℕ) (n : ℕ) → ((j : ℕ) → f j < 256) → total f n < 256
+unfolding total
+total-lt f zero h = omega arith
+total-lt f (suc n) h = L.add-lt (total f n) (f n) (total-lt f n h) (h n)
+
+-- all terms but one are zero
+total-one : (f : ℕ → ℕ) (n i : ℕ) → i < n → ((j : ℕ) → j < n → j ≢ i → f j ≡ 0) → total f n ≡ f i
+unfolding total
+total-one f zero i h z = absurd (omega arith)
+total-one f (suc n) i h z =
+    ⊎-elim (λ e. ap₂ add (total-zero f n (λ j b. z j (omega arith) (λ q. omega arith))) (ap f (sym e)) ∙ L.zero-add (f i))
+    (λ l. ap₂ add (total-one f n i l (λ j b. z j (omega arith))) (z n (omega arith) (λ q. omega arith)) ∙ L.add-zero (f i))
+    (N.eq-or-lt-of-le (N.le-of-suc-le-suc h))
+
+-- ---- the quotient
+
+quot-eval : (r : ℕ) (cs : List ℕ) → quot r cs ≡ P.quot bytes r cs
+unfolding quot P.quot
+quot-eval r [] = refl
+quot-eval r (d ∷ ds) = ap₂ _∷_ (value-eval (d ∷ ds) r) (quot-eval r ds)
+
+pub value-over : (x z : ℕ) (m : List ℕ) → value (quot x (drop (length m) m)) z ≡ 0
+unfolding quot value
+value-over x z m = ap (λ (l : List ℕ). value (quot x l) z) (drop-length m)
+
+pub quot-next : (x z : ℕ) (m : List ℕ) (j : ℕ) → 0 < j → j ≤ length m
+    → value (quot x (drop (j - 1) m)) z ≡ add (value (drop (j - 1) m) x) (mul z (value (quot x (drop j m)) z))
+unfolding quot value
+quot-next x z m j h l =
+    ap (λ (l : List ℕ). value (quot x l) z) e ∙ ap (λ (l : List ℕ). add (value l x) (mul z (value (quot x (drop j m)) z))) (sym e)
+  where
+    back : suc (j - 1) ≡ j
+    back = omega arith
+
+    e : drop (j - 1) m ≡ getD m (j - 1) 0 ∷ drop j m
+    e = drop-cons m (j - 1) 0 (omega arith) ∙ ap (λ (i : ℕ). getD m (j - 1) 0 ∷ drop i m) back
+
+getD-quot : (x : ℕ) (cs : List ℕ) (i : ℕ) → i < length cs → getD (quot x cs) i 0 ≡ value (drop i cs) x
+unfolding quot
+getD-quot x [] i h = absurd (omega arith)
+getD-quot x (d ∷ ds) zero h = refl
+getD-quot x (d ∷ ds) (suc i) h = getD-quot x ds i (omega arith)
+
+-- the sum of the quotients, each times a factor, has the sums of their coefficients
+pub value-sum : (e x : ℕ → ℕ) (n z : ℕ) (cs r : List ℕ) → length r ≡ length cs
+    → ((i : ℕ) → i < length cs → getD r i 0 ≡ total (λ j. mul (e j) (value (drop i cs) (x j))) n)
+    → value r z ≡ total (λ j. mul (e j) (value (quot (x j) cs) z)) n
+unfolding value quot
+value-sum e x n z [] [] l h = sym (total-zero (λ j. mul (e j) 0) n (λ j b. L.zero-mul-r (e j)))
+value-sum e x n z [] (a ∷ r) l h = absurd (zero≢suc (sym l))
+value-sum e x n z (d ∷ ds) [] l h = absurd (zero≢suc l)
+value-sum e x n z (d ∷ ds) (a ∷ r) l h =
+    ap₂ (λ (p q : ℕ). add p (mul z q)) (h 0 (omega arith)) (value-sum e x n z ds r (suc-injective l) (λ i b. h (suc i) (omega arith)))
+    ∙ ap (add (total (λ j. mul (e j) (value (d ∷ ds) (x j))) n)) (total-mul z (λ j. mul (e j) (value (quot (x j) ds) z)) n)
+    ∙ total-add (λ j. mul (e j) (value (d ∷ ds) (x j))) (λ j. mul z (mul (e j) (value (quot (x j) ds) z))) n
+    ∙ total-same (λ j. add (mul (e j) (value (d ∷ ds) (x j))) (mul z (mul (e j) (value (quot (x j) ds) z))))
+    (λ j. mul (e j) (add (value (d ∷ ds) (x j)) (mul z (value (quot (x j) ds) z)))) n
+    (λ j b. ap (add (mul (e j) (value (d ∷ ds) (x j)))) (L.mul-left-comm z (e j) (value (quot (x j) ds) z))
+    ∙ sym (L.mul-add (e j) (value (d ∷ ds) (x j)) (mul z (value (quot (x j) ds) z))))
+
+-- ---- the product of all X - x, and its quotients
+
+module _ (xs m : List ℕ) (M : Master xs m) (apart : Apart xs) (small : (i : ℕ) → getD xs i 0 < 256) (bytes-m : (i : ℕ) → getD m i 0 < 256) where
+  abbrev pub x : ℕ → ℕ
+  x j = getD xs j 0
+
+  whole : m ≡ getD m 0 0 ∷ drop 1 m
+  whole = drop-cons m 0 0 (omega (arith, M .size))
+
+  length-cs : length (drop 1 m) ≡ length xs
+  length-cs = length-drop 1 m ∙ short (M .size)
+    where
+      short : {a b : ℕ} → a ≡ suc b → a - 1 ≡ b
+      short e = omega arith
+
+  cs-bytes : All Byte (drop 1 m)
+  cs-bytes = all-drop Byte 1 m (all-of Byte m (λ i h. bytes-m i))
+
+  ok : (r : ℕ) → All Byte (quot r (drop 1 m))
+  ok r = subst (All Byte) (sym (quot-eval r (drop 1 m))) (P.ok-quot bytes r (drop 1 m) cs-bytes)
+
+  value-lt : (l : List ℕ) (z : ℕ) → All Byte l → value l z < 256
+  value-lt l z h = subst (λ (v : ℕ). v < 256) (sym (value-eval l z)) (P.ok-eval bytes l z h)
+
+  -- M(z) - M(r) = (z - r) Q(z)
+  split : (z r : ℕ) → add (value m z) (value m r) ≡ mul (add z r) (value (quot r (drop 1 m)) z)
+  split z r =
+      ap₂ add (value-eval m z ∙ ap (λ (l : List ℕ). eval bytes l z) whole) (value-eval m r ∙ ap (λ (l : List ℕ). eval bytes l r) whole)
+      ∙ factor bytes z r (getD m 0 0) (drop 1 m)
+      ∙ ap (mul (add z r)) (ap (λ (l : List ℕ). eval bytes l z) (sym (quot-eval r (drop 1 m))) ∙ sym (value-eval (quot r (drop 1 m)) z))
+
+  -- the quotient at the other points
+  other : (i j : ℕ) → i < length xs → j < length xs → x j ≢ x i → value (quot (x j) (drop 1 m)) (x i) ≡ 0
+  other i j hi hj n =
+      W.cancel (add (x i) (x j)) (value (quot (x j) (drop 1 m)) (x i)) (L.apart (x i) (x j) (λ e. n (sym e))) (L.add-lt (x i) (x j) (small i) (small j))
+      (value-lt (quot (x j) (drop 1 m)) (x i) (ok (x j)))
+      (sym (split (x i) (x j)) ∙ ap₂ add (M .root i hi) (M .root j hj) ∙ L.add-self 0)
+
+  distinct : (i j : ℕ) → i < length xs → j < length xs → j ≢ i → x j ≢ x i
+  distinct i j hi hj n e =
+      ⊎-elim (λ l. apart j i l hi e) (λ l. apart i j (strict l n) hj (sym e)) (lt-or-le j i)
+    where
+      strict : {a b : ℕ} → a ≤ b → b ≢ a → a < b
+      strict l n = ⊎-elim (λ e. absurd (n (sym e))) (λ h. h) (N.eq-or-lt-of-le l)
+
+  -- the highest coefficient of each quotient is 1, so it is not zero at its own point
+  last : (r : ℕ) (n : ℕ) → length xs ≡ suc n → getD (quot r (drop 1 m)) n 0 ≡ 1
+  unfolding value
+  last r n e =
+      getD-quot r (drop 1 m) n (omega (arith, length-cs)) ∙ ap (λ (l : List ℕ). value l r) (drop-cons (drop 1 m) n 0 (omega (arith, length-cs)))
+      ∙ ap₂ (λ (t : ℕ) (l : List ℕ). add t (mul r (value l r))) (getD-drop 1 m n 0 ∙ ap (λ (i : ℕ). getD m i 0) at ∙ M .top)
+      (drop-of-length-le (drop 1 m) over)
+      ∙ simp (L.zero-mul-r, L.add-zero)
+    where
+      over : length (drop 1 m) ≤ suc n
+      over = omega (arith, length-cs)
+
+      at : 1 + n ≡ length xs
+      at = omega arith
+
+  getD-zeros : (l : List ℕ) (i : ℕ) → All (λ (a : ℕ). a ≡ 0) l → getD l i 0 ≡ 0
+  getD-zeros [] i h = refl
+  getD-zeros (a ∷ l) zero h = h .0
+  getD-zeros (a ∷ l) (suc i) h = getD-zeros l i (h .1)
+
+  pub nonzero : (j : ℕ) → j < length xs → value (quot (x j) (drop 1 m)) (x j) ≢ 0
+  nonzero j h z =
+      let e : length xs ≡ suc (length xs - 1) = omega arith in
+      let q = quot (x j) (drop 1 m) in
+      let l : length xs ≡ length q = sym (ap length (quot-eval (x j) (drop 1 m)) ∙ P.length-quot bytes (x j) (drop 1 m) ∙ length-cs) in
+      let zs = roots bytes xs q l (distinct-of xs apart) (all-of Byte xs (λ i b. small i)) (ok (x j))
+      (all-of (λ (y : ℕ). eval bytes q y ≡ 0) xs (λ i b. sym (value-eval q (x i)) ∙ ⊎-elim (λ (s : i ≡ j). subst (λ (i : ℕ). value q (x i) ≡ 0) (sym s) z)
+      (λ n. other i j b h (distinct i j b h (λ s. n (sym s)))) (same-or-not i j))) in
+      one≢zero (sym (last (x j) (length xs - 1) e) ∙ getD-zeros q (length xs - 1) zs)
+    where
+      one≢zero : _≡_ {A = ℕ} 1 0 → ⊥
+      one≢zero e = omega arith
+
+      same-or-not : (a b : ℕ) → (a ≡ b) ⊎ (a ≢ b)
+      same-or-not a b = ⊎-elim (λ l. inr (λ e. omega arith)) (λ l. ⊎-elim (λ e. inl (sym e)) (λ h. inr (λ e. omega arith)) (N.eq-or-lt-of-le l)) (lt-or-le a b)
+
+  -- ---- the row whose coefficients are the weighed sums takes the values
+
+  module _ (ds : List ℕ) (S : Scales xs m ds) (y : ℕ → ℕ) (small-y : (j : ℕ) → y j < 256) (r : List ℕ) (size : length r ≡ length xs)
+      (sums : (i : ℕ) → i < length xs → getD r i 0 ≡ total (λ j. mul (mul (getD ds j 0) (value (drop (suc i) m) (x j))) (y j)) (length xs)) where
+    abbrev pub e : ℕ → ℕ
+    e j = mul (getD ds j 0) (y j)
+
+    by-factors : (i : ℕ) → i < length (drop 1 m) → getD r i 0 ≡ total (λ j. mul (e j) (value (drop i (drop 1 m)) (x j))) (length xs)
+    by-factors i h =
+        sums i (omega (arith, length-cs))
+        ∙ total-same (λ j. mul (mul (getD ds j 0) (value (drop (suc i) m) (x j))) (y j)) (λ j. mul (e j) (value (drop i (drop 1 m)) (x j))) (length xs)
+        (λ j b. swap (getD ds j 0) (value (drop (suc i) m) (x j)) (y j) ∙ ap (λ (l : List ℕ). mul (mul (getD ds j 0) (y j)) (value l (x j))) (later i))
+      where
+        swap : (d v y : ℕ) → mul (mul d v) y ≡ mul (mul d y) v
+        swap d v y = L.mul-assoc d v y ∙ ap (mul d) (L.mul-comm v y) ∙ sym (L.mul-assoc d y v)
+
+        later : (i : ℕ) → drop (suc i) m ≡ drop i (drop 1 m)
+        later i = ap (drop (suc i)) whole ∙ ap (drop i) (sym (ap (drop 1) whole))
+
+    pub values : (z : ℕ) → value r z ≡ total (λ j. mul (e j) (value (quot (x j) (drop 1 m)) z)) (length xs)
+    values z = value-sum e x (length xs) z (drop 1 m) r (size ∙ sym length-cs) by-factors
+
+    pub takes : (i : ℕ) → i < length xs → value r (getD xs i 0) ≡ y i
+    takes i h =
+        values (x i)
+        ∙ total-one (λ j. mul (e j) (value (quot (x j) (drop 1 m)) (x i))) (length xs) i h
+        (λ j b n. ap (mul (e j)) (other i j h b (distinct i j h b n)) ∙ L.zero-mul-r (e j))
+        ∙ own (getD ds i 0) (y i) (value (quot (x i) (drop 1 m)) (x i)) (small-y i) (S i h)
+      where
+        own : (d y v : ℕ) → y < 256 → mul v d ≡ 1 → mul (mul d y) v ≡ y
+        own d y v h o = L.mul-comm (mul d y) v ∙ sym (L.mul-assoc v d y) ∙ ap (λ (p : ℕ). mul p y) o ∙ L.one-mul-l y h
+
+-- ---- the product of all X - x
+
+-- the Newton form with the coefficients 0, .. 0, 1 vanishes at its points
+pub newton-zeros : (ps r : List ℕ) (i : ℕ) → length r ≡ suc (length ps) → ((j : ℕ) → j < length ps → getD r j 0 ≡ 0) → i < length ps
+    → newton (ps ++ 0 ∷ []) r (getD ps i 0) ≡ 0
+unfolding newton
+newton-zeros [] r i l h g = absurd (omega arith)
+newton-zeros (p ∷ ps) [] i l h g = absurd (zero≢suc l)
+newton-zeros (p ∷ ps) (a ∷ r) zero l h g =
+    ap₂ (λ (a d : ℕ). add a (mul d (newton (ps ++ 0 ∷ []) r p))) (h 0 g) (L.add-self p)
+    ∙ ap (add 0) (L.zero-mul-l (newton (ps ++ 0 ∷ []) r p)) ∙ L.add-self 0
+newton-zeros (p ∷ ps) (a ∷ r) (suc i) l h g =
+    let z = getD ps i 0 in
+    ap₂ (λ (a n : ℕ). add a (mul (add z p) n)) (h 0 (omega arith)) (newton-zeros ps r i (suc-injective l) (λ j b. h (suc j) (omega arith)) (omega arith))
+    ∙ ap (add 0) (L.zero-mul-r (add z p)) ∙ L.add-self 0
+
+module _ (ps old : List ℕ) (size : length old ≡ suc (length ps)) where
+  pub longer : length (ps ++ 0 ∷ []) ≡ length old
+  longer = simp length-append (omega arith)
+
+  pub point : (i : ℕ) → i < length ps → getD (ps ++ 0 ∷ []) i 0 ≡ getD ps i 0
+  point i h = List·getD-append ps (0 ∷ []) 0 i h
+
+  pub master-start : Expanded (ps ++ 0 ∷ []) old old (length ps)
+  unfolding value newton
+  master-start = record {
+    size = refl;
+    kept = λ i h. refl;
+    same = λ z. ap (λ (l : List ℕ). value l z) last ∙ sym (ap₂ (λ (p c : List ℕ). newton p c z) (drop-at ps (0 ∷ []) (length ps) refl) last
+        ∙ ap (add (getD old (length ps) 0)) (L.zero-mul-r (add z 0) ∙ sym (L.zero-mul-r z)));
+  }
+    where
+      none : length old ≤ suc (length ps)
+      none = omega arith
+
+      last : drop (length ps) old ≡ getD old (length ps) 0 ∷ []
+      last = drop-cons old (length ps) 0 (omega arith) ∙ ap (_∷_ (getD old (length ps) 0)) (drop-of-length-le old none)
+
+  pub master-top : (x j : ℕ) (row new : List ℕ) → j < length ps → length row ≡ length old → Attached x j row new → getD row (length ps) 0 ≡ 1 → getD new (length ps) 0 ≡ 1
+  master-top x j row new h l a t =
+      a .each (length ps) (omega arith) (omega arith)
+      ∙ ap₂ (λ (u v : ℕ). add u (mul x v)) t (List·getD-eq-default row 0 over) ∙ simp (L.zero-mul-r, L.add-zero)
+    where
+      over : length row ≤ length ps + 1
+      over = omega arith

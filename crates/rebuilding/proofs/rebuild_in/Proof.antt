@@ -1,0 +1,132 @@
+-- `rebuilding::rebuild_in` meets its contract.
+-- Assumes nothing.
+use borrow.Author.Needs.{needs}
+use mathlib.Core.Path.{refl, sym, _∙_}
+use Prim.Native.Nat.{_-_}
+use native.Mathlib.Omega.{arith}
+use lib.ListN.{length, length-set}
+use lib.Seq.{getD-set-same, getD-set-other}
+use Rattle.code.proofs.Lists.{false≢true}
+use Rattle.octets.proofs.Parts.{cleared}
+use Rattle.rebuilding.proofs.Rows.{first-boards}
+use Rattle.rebuilding.proofs.rebuild_in.Statement.{statement}
+use Rattle.rebuilding.proofs.rebuild_in.Tie as tie
+
+clear-at-requires : tie.Need-clear-at-requires
+clear-at-requires c κs = search needs
+
+slice-write-m : tie.Need-slice-write-m
+slice-write-m c = search needs
+
+master-requires : tie.Need-master-requires
+master-requires c κs =
+    let s = c .before .before .before .before .before .before .before .before .before .before .before .before .before in
+    let k = length (s .args .points .now) in
+    let l = c .before .before .before .clear-at in (
+      length-set (l .last .0) k 1 ∙ l .kept .0 ∙ s .pre .7,
+      (λ i h. getD-set-other (l .last .0) k i 1 0 (λ e. omega arith)
+          ∙ cleared k (s .args .m .now) (l .last .0) (omega (arith, s .pre .7)) (l .ensures) i h),
+      getD-set-same (l .last .0) k 1 0 (omega (arith, l .kept .0, s .pre .7)),
+    )
+
+scales-requires : tie.Need-scales-requires
+scales-requires c κs = search needs
+
+others-agree-requires : tie.Need-others-agree-requires
+others-agree-requires c κs =
+    let p = c .before .before .before .before .before .before .before .before .before .before .before .before .before .before .before .before .before .before .before .before .before .before .before .before .before .pre in
+    let d = c .before .before .before .before .before .before .scales in
+    (p .0, p .1, p .2, p .3, p .4, c .before .before .before .before .before .before .before .before .before .before .before .master .ensures, d .kept .1 .1 .0 ∙ p .8, d .ensures, p .9, p .10)
+
+clear-at-requires-2 : tie.Need-clear-at-requires-2
+clear-at-requires-2 c κs = search needs
+
+write-columns-requires : tie.Need-write-columns-requires
+write-columns-requires c κs =
+    let s = c .before .before .before .before .before .before .before .before .before .before .before .before .before .before .before .before .before .before .before .before .before .before .before .before .before .before .before .before .before .before .before .before .before .before .before .before .before .before .before .before in
+    let p = s .pre in
+    let w = c .before .before .before .before .before .before .before .clear-at2 in
+    let d = c .before .before .before .before .before .before .before .before .before .before .before .before .before .before .before .before .before .before .before .before .before .scales in
+    let o = c .before .before .before .before .before .before .before .before .before .before .before .before .before .before .others-agree in (
+      first-boards (length (s .args .area .now)) (s .args .s) (s .args .points .now) (s .args .marked .now) (s .pre .4) (s .pre .0),
+      p .1,
+      p .2,
+      p .3,
+      p .5,
+      p .6,
+      c .before .before .before .before .before .before .before .before .before .before .before .before .before .before .before .before .before .before .before .before .before .before .before .before .before .before .master .ensures,
+      d .kept .1 .1 .0 ∙ p .8,
+      d .ensures,
+      w .kept .0 ∙ o .kept .1 .1 .1 .1 .1 .1 .1 .0 ∙ p .9,
+      (λ j h. cleared (length (s .args .points .now)) (o .last .1 .1 .1 .1 .1 .1 .1 .0) (w .last .0) (omega (arith, o .kept .1 .1 .1 .1 .1 .1 .1 .0, p .9)) (w .ensures) j
+          (omega (arith, w .kept .0, o .kept .1 .1 .1 .1 .1 .1 .1 .0, p .9))),
+      omega (arith, o .kept .1 .1 .1 .1 .1 .1 .1 .1 .0, p .10),
+    )
+
+same-length : tie.Need-same-length
+same-length c = search needs
+
+same-length-2 : tie.Need-same-length-2
+same-length-2 c =
+    let l = c .before .before .before .before .before .before .before .before .before .before .before .before .before .before .before .before .before .before .before .before .before .before .before .before .before .before .before .before .before .before .before .before .before .before .before .before .before .clear-at in
+    c .before .before .before .before .before .before .before .before .before .before .before .before .before .before .before .before .before .before .before .before .before .before .before .before .before .before .before .before .before .before .before .before .before .master .kept .1 .0 ∙ length-set (l .last .0) _ 1 ∙ l .kept .0
+
+same-length-3 : tie.Need-same-length-3
+same-length-3 c = search needs
+
+same-length-4 : tie.Need-same-length-4
+same-length-4 c = search needs
+
+same-length-5 : tie.Need-same-length-5
+same-length-5 c = search needs
+
+returns : tie.Need-returns
+returns c =
+    let o = c .before .before .before .before .before .before .before .before .before .before .before .before .before .before .before .before .before .before .before .before .before .others-agree in
+    record {
+      found = λ e. (o .ensures .0 (c .before .before .before .before .before .before .before .before .before .before .before .before .before .before .before .before .if1 .taken), c .before .before .before .before .before .before .write-columns .ensures);
+      refused = λ e. absurd (false≢true (sym e));
+    }
+
+same-length-6 : tie.Need-same-length-6
+same-length-6 c = search needs
+
+same-length-7 : tie.Need-same-length-7
+same-length-7 c = search needs
+
+same-length-8 : tie.Need-same-length-8
+same-length-8 c = search needs
+
+same-length-9 : tie.Need-same-length-9
+same-length-9 c = search needs
+
+returns-2 : tie.Need-returns-2
+returns-2 c =
+    let o = c .before .before .before .before .before .others-agree in
+    record {
+      found = λ e. absurd (false≢true e);
+      refused = λ e. (refl, o .ensures .1 (c .if1 .left));
+    }
+
+pub rebuild-in-spec : {M : Type 1} → statement M
+rebuild-in-spec =
+    tie.close
+    (tie.spec
+    clear-at-requires
+    slice-write-m
+    master-requires
+    scales-requires
+    others-agree-requires
+    clear-at-requires-2
+    write-columns-requires
+    same-length
+    same-length-2
+    same-length-3
+    same-length-4
+    same-length-5
+    returns
+    same-length-6
+    same-length-7
+    same-length-8
+    same-length-9
+    returns-2)

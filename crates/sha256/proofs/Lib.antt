@@ -1,0 +1,6 @@
+-- Laws that several proofs cite.
+pub mod Rounds
+pub mod Next
+pub mod Padding
+pub mod Digest
+pub mod Published

@@ -1,0 +1,94 @@
+-- The bytes of a padded message, and its blocks.
+-- Assumes nothing.
+use Prim.Native.Nat.{ℕ, suc, _+_, _-_, _*_, _/_, _≤_, _<_}
+use mathlib.Core.Path.{_≡_, ap, _∙_, sym}
+use mathlib.Core.List.{List, _∷_, _++_}
+use native.Mathlib.Omega.{arith}
+use lib.ListN.{length, getD, take, drop, replicate, length-append, length-replicate, getD-replicate, length-drop, List·getD-append}
+use lib.Seq.{getD-take, getD-drop, ext-getD, length-take-le}
+use Rattle.octets.proofs.Tables.{getD-right, length-tab, getD-tab}
+use Rattle.octets.specs.Bytes.{tab, part}
+use Rattle.sha256.specs.Sha256.{byteOf, zeros, pad, block}
+
+-- where the length's eight bytes start
+abbrev pub tail : ℕ → ℕ
+tail n = (n + 8) / 64 * 64 + 56
+
+pub length-pad : (m : List ℕ) → length (pad m) ≡ tail (length m) + 8
+unfolding pad zeros
+length-pad m =
+    simp (length-append, length-replicate, length-tab) (omega arith)
+
+-- what is put after the message, and after its one bit
+abbrev after : List ℕ → List ℕ
+after m = replicate (zeros (length m)) 0 ++ tab 8 (byteOf 8 (8 * length m))
+
+abbrev rest : List ℕ → List ℕ
+rest m = 128 ∷ (after m)
+
+module _ (m : List ℕ) (i : ℕ) where
+  pub pad-in : i < length m → getD (pad m) i 0 ≡ getD m i 0
+  unfolding pad
+  pad-in h = List·getD-append m (rest m) 0 i h
+
+  pub pad-one : i ≡ length m → getD (pad m) i 0 ≡ 128
+  unfolding pad
+  pad-one e =
+      let z : i - length m ≡ 0 = omega arith in
+      getD-right m (rest m) i (omega arith) ∙ ap (λ (k : ℕ). getD (rest m) k 0) z
+
+  past : length m < i → getD (pad m) i 0 ≡ getD (after m) (i - length m - 1) 0
+  unfolding pad
+  past h =
+      let s : i - length m ≡ suc (i - length m - 1) = omega arith in
+      getD-right m (rest m) i (omega arith) ∙ ap (λ (k : ℕ). getD (rest m) k 0) s
+
+  pub pad-zero : length m < i → i < tail (length m) → getD (pad m) i 0 ≡ 0
+  unfolding zeros
+  pad-zero a b =
+      past a
+      ∙ List·getD-append (replicate (zeros (length m)) 0) (tab 8 (byteOf 8 (8 * length m))) 0 (i - length m - 1) (rw length-replicate (omega arith))
+      ∙ getD-replicate (zeros (length m)) (i - length m - 1) 0 0 (omega arith)
+
+  pub pad-length : tail (length m) ≤ i → i < length (pad m) → getD (pad m) i 0 ≡ byteOf 8 (8 * length m) (i - tail (length m))
+  unfolding zeros
+  pad-length a b =
+      let j : i - length m - 1 - zeros (length m) ≡ i - tail (length m) = omega arith in
+      past (omega arith)
+      ∙ getD-right (replicate (zeros (length m)) 0) (tab 8 (byteOf 8 (8 * length m))) (i - length m - 1) (rw length-replicate (omega arith))
+      ∙ rw (length-replicate, j) (getD-tab 8 (byteOf 8 (8 * length m)) (i - tail (length m)) (omega (arith, length-pad m)))
+
+-- the bytes of the two parts of a message
+module _ (h b : List ℕ) (i : ℕ) where
+  pub pad-head : i < length h → getD (pad (h ++ b)) i 0 ≡ getD h i 0
+  pad-head lt = pad-in (h ++ b) i (omega (arith, length-append h b)) ∙ List·getD-append h b 0 i lt
+
+  pub pad-body : length h ≤ i → i < length h + length b → getD (pad (h ++ b)) i 0 ≡ getD b (i - length h) 0
+  pad-body ge lt = pad-in (h ++ b) i (omega (arith, length-append h b)) ∙ getD-right h b i ge
+
+-- a block is its 64 bytes
+pub block-tab : (p : List ℕ) (k : ℕ) → 64 * k + 64 ≤ length p → tab 64 (λ j. getD p (64 * k + j) 0) ≡ block k p
+unfolding block part
+block-tab p k h =
+    let len : length (take 64 (drop (64 * k) p)) ≡ 64 = length-take-le 64 (drop (64 * k) p) (rw length-drop (omega arith)) in
+    ext-getD 0 _ _ (length-tab 64 _ ∙ sym len)
+    (λ i lt. let lt′ : i < 64 = omega (arith, length-tab 64 (λ j. getD p (64 * k + j) 0)) in
+    getD-tab 64 (λ j. getD p (64 * k + j) 0) i lt′ ∙ sym (getD-take 64 (drop (64 * k) p) i 0 lt′ ∙ getD-drop (64 * k) p i 0))
+
+-- a block that lies within the body is a part of it
+pub block-inside : (h b : List ℕ) (k : ℕ) → length h ≤ 64 * k → 64 * k - length h + 64 ≤ length b
+    → take 64 (drop (64 * k - length h) b) ≡ block k (pad (h ++ b))
+unfolding block part
+block-inside h b k low high =
+    let total : length (h ++ b) ≡ length h + length b = length-append h b in
+    let left : length (take 64 (drop (64 * k - length h) b)) ≡ 64 = length-take-le 64 (drop (64 * k - length h) b) (rw length-drop (omega arith)) in
+    let right : length (take 64 (drop (64 * k) (pad (h ++ b)))) ≡ 64 =
+    length-take-le 64 (drop (64 * k) (pad (h ++ b))) (rw length-drop (omega (arith, length-pad (h ++ b)))) in
+    ext-getD 0 _ _ (left ∙ sym right)
+    (λ i lt.
+    let lt′ : i < 64 = omega arith in
+    let at : 64 * k - length h + i ≡ 64 * k + i - length h = omega arith in
+    getD-take 64 (drop (64 * k - length h) b) i 0 lt′ ∙ getD-drop (64 * k - length h) b i 0
+    ∙ ap (λ (j : ℕ). getD b j 0) at ∙ sym (getD-right h b (64 * k + i) (omega arith))
+    ∙ sym (pad-in (h ++ b) (64 * k + i) (omega arith))
+    ∙ sym (getD-take 64 (drop (64 * k) (pad (h ++ b))) i 0 lt′ ∙ getD-drop (64 * k) (pad (h ++ b)) i 0))

@@ -1,0 +1,11 @@
+-- Laws of the tree.
+pub mod Pairs
+pub mod Spans
+pub mod Lifts
+pub mod Whole
+pub mod Bound
+pub mod Flat
+pub mod Leaves
+pub mod Checks
+pub mod Rising
+pub mod Paths

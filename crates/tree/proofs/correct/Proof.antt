@@ -1,0 +1,93 @@
+-- `tree::correct` meets its contract. Assumes nothing.
+use Prim.Native.Nat.{_-_, _*_}
+use mathlib.Core.Path.{_≡_, ap₂, _∙_}
+use native.Mathlib.Omega.{arith}
+use borrow.Author.Needs.{needs}
+use lib.ListN.{length}
+use Rattle.octets.specs.Bytes.{same}
+use Rattle.octets.proofs.Picks.{picks}
+use Rattle.sha256.specs.Sha256.{sha256}
+use Rattle.tree.specs.Tree.{treeOf, depth, climb}
+use Rattle.tree.specs.Check.{nodeOf, pathCorrect}
+use Rattle.octets.proofs.Parts.{part-all}
+use Rattle.tree.proofs.Spans.{depth-all}
+use Rattle.tree.proofs.correct.Statement.{statement}
+use Rattle.tree.proofs.correct.Tie as tie
+
+returns : tie.Need-returns
+unfolding pathCorrect
+returns c = search picks
+
+returns-2 : tie.Need-returns-2
+unfolding pathCorrect
+returns-2 c = search picks
+
+returns-3 : tie.Need-returns-3
+unfolding pathCorrect
+returns-3 c = search picks
+
+returns-4 : tie.Need-returns-4
+unfolding pathCorrect
+returns-4 c = search picks
+
+returns-5 : tie.Need-returns-5
+unfolding pathCorrect
+returns-5 c = search picks
+
+returns-6 : tie.Need-returns-6
+unfolding pathCorrect
+returns-6 c = search picks
+
+nodes-requires : tie.Need-nodes-requires
+nodes-requires c κs = search needs
+
+mul-if7 : tie.Need-mul-if7
+mul-if7 c = search needs
+
+returns-7 : tie.Need-returns-7
+unfolding pathCorrect
+returns-7 c = let a = c .before .before .before .before .before .before .before .before .before .before .before .args in
+    let wrong : length (a .path .now) ≡ 32 * depth (treeOf (a .n)) (a .i - 1) → ⊥ = λ e. omega (arith, depth-all (a .n) (a .i - 1) (omega arith) (omega arith)) in
+    search picks
+
+leaf-requires : tie.Need-leaf-requires
+leaf-requires c κs = search needs
+
+taken-up-requires : tie.Need-taken-up-requires
+taken-up-requires c κs = let a = c .before .before .before .before .before .before .before .before .before .before .before .before .args in
+    (omega arith, omega arith, omega (arith, depth-all (a .n) (a .i - 1) (omega arith) (omega arith)))
+
+slice-aggregate-same-at : tie.Need-slice-aggregate-same-at
+slice-aggregate-same-at c = search needs
+
+same-at-requires : tie.Need-same-at-requires
+same-at-requires c κs = search needs
+
+returns-8 : tie.Need-returns-8
+unfolding pathCorrect
+returns-8 c = let a = c .before .before .before .before .before .before .before .before .before .before .before .before .before .before .before .args in
+    let count : length (a .path .now) ≡ 32 * depth (treeOf (a .n)) (a .i - 1) = omega (arith, depth-all (a .n) (a .i - 1) (omega arith) (omega arith)) in
+    let x = c .before .before .taken-up .result in
+    let hash : x ≡ climb sha256 (nodeOf (a .path .now)) (treeOf (a .n)) (a .i - 1) (a .f .now) = c .before .before .taken-up .ensures (a .f .now) (c .before .before .before .leaf .ensures) in
+    let last : c .same-at .result ≡ same (climb sha256 (nodeOf (a .path .now)) (treeOf (a .n)) (a .i - 1) (a .f .now)) (a .root .now) =
+    c .same-at .ensures ∙ ap₂ same (part-all 32 x (omega arith) ∙ hash) (part-all 32 (a .root .now) (omega arith)) in
+    search picks
+
+pub correct-spec : {M : Type 1} → statement M
+correct-spec =
+    tie.close
+    (tie.spec
+    returns
+    returns-2
+    returns-3
+    returns-4
+    returns-5
+    returns-6
+    nodes-requires
+    mul-if7
+    returns-7
+    leaf-requires
+    taken-up-requires
+    slice-aggregate-same-at
+    same-at-requires
+    returns-8)

@@ -1,0 +1,46 @@
+-- The tree by levels, as the loops go through it. `proofs/Spans.antt` shows that it is the tree of RFC 6962.
+use Prim.Native.Nat.{ℕ, zero, suc, _+_, _-_, _*_, _%_, _^_, _≤_, _<_}
+use mathlib.Core.Path.{_≡_}
+use mathlib.Core.List.{List}
+use lib.Dec.{ltb}
+use Rattle.octets.specs.Bytes.{pick, part, placeEach}
+use Rattle.sha256.specs.Sha256.{sha256}
+use Rattle.tree.specs.Tree.{Tree, tip, fork, root, path, flat, rootOf}
+
+-- the tree over the leaves from a on: 2 ^ d of them, or fewer where the n leaves end
+unfoldable pub span : ℕ → ℕ → ℕ → Tree
+span n zero a = tip a
+span n (suc d) a = pick (ltb (a + 2 ^ d) n) (fork (a + 2 ^ d) (span n d a) (span n d (a + 2 ^ d))) (span n d a)
+
+-- the first of the 2 ^ d leaves among which leaf i is
+unfoldable pub start : ℕ → ℕ → ℕ
+start d i = i - i % 2 ^ d
+
+-- among the 2 ^ (d + 1) leaves: the first of their right half
+unfoldable pub middle : ℕ → ℕ → ℕ
+middle d i = start (d + 1) i + 2 ^ d
+
+-- the tree, d levels high, that leaf i is in
+unfoldable pub around : ℕ → ℕ → ℕ → Tree
+around n d i = span n d (start d i)
+
+-- ---- a root from leaves that come one after the other
+
+-- before leaf i: for each level at which leaf i is on the right, the hash of what is on the left waits in that level's 32 bytes of w
+pub record Waiting (n : ℕ) (fs : ℕ → List ℕ) (i : ℕ) (w : List ℕ) : Type 0 where
+  pub left : (d : ℕ) → d < 6 → middle d i ≤ i → part (32 * d) 32 w ≡ root sha256 fs (span n d (start (d + 1) i))
+
+-- after leaf i, with the hash r: what waits for leaf i + 1, or the root
+pub record Raised (n : ℕ) (fs : ℕ → List ℕ) (i : ℕ) (r w : List ℕ) : Type 0 where
+  pub waits : i + 1 < n → Waiting n fs (i + 1) w
+  pub last : i + 1 ≡ n → r ≡ rootOf n fs
+
+-- ---- all paths, a level after the other
+
+-- the path of leaf i as far as level d, as bytes
+unfoldable pub pathTo : ℕ → (ℕ → List ℕ) → ℕ → ℕ → List ℕ
+pathTo n fs d i = flat (path sha256 fs (around n d i) i)
+
+-- the paths of the leaves before c as far as level d + 1, of the others as far as level d, each in its 192 bytes of s
+unfoldable pub pathsTo : ℕ → (ℕ → List ℕ) → ℕ → ℕ → List ℕ → List ℕ
+pathsTo n fs d c s = placeEach n 192 (λ i. pick (ltb i c) (pathTo n fs (d + 1) i) (pathTo n fs d i)) s

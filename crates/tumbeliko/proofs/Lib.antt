@@ -1,0 +1,2 @@
+-- The examples of document 01.
+pub mod ByHand

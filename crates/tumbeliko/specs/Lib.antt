@@ -1,0 +1,2 @@
+-- What the contracts of `tumbeliko` cite beside the definitions of the crates below.
+pub mod Tables

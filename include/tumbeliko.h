@@ -1,0 +1,287 @@
+/*
+ * tumbeliko: reliable broadcast between the boards of one machine.
+ *
+ * A sender's message of at most 16,384 bytes is cut into one fragment for
+ * each of n boards, so that any k = n - 2t of them give it back. Each
+ * fragment travels with a path to the root of a hash tree over all of
+ * them, by which a board sees that a fragment belongs to that root.
+ *
+ * How to use this header
+ * ----------------------
+ *
+ * Link with libtumbeliko.a. The archive is built for x86-64 Linux today.
+ * It keeps no memory between calls, takes nothing from a heap and opens no
+ * file: all that a call knows it is handed, and all that it leaves is in
+ * its result and in the buffers lent to it.
+ *
+ * Numbers. Every 32-bit number may be handed to every call, also one
+ * outside its limits: such a call is refused, it never goes wrong.
+ *
+ * Buffers. A buffer is a pointer and, right after it, its length in bytes.
+ * - The caller owns every buffer, before, during and after a call. No call
+ *   keeps a pointer.
+ * - The pointer must point to at least that many bytes, and must not be
+ *   null even if the length is 0. It needs no alignment.
+ * - A buffer may be longer than needed. The bytes beyond those that a call
+ *   writes, as told beside each call, stay as they were.
+ * - The buffers lent to one call must not overlap.
+ * - A `const` buffer is only read. Nobody may change it during the call.
+ * - A call may run at the same time as another in a second thread if no
+ *   buffer that either of them writes is lent to both. A board's state
+ *   takes one call at a time.
+ *
+ * Refusals. Each call that can refuse answers a number: 0 if it did its
+ * work, else the number of the refusal. The faults are looked for in the
+ * order given beside the call, and the first one found is answered. With a
+ * refusal
+ * - every other field of the result is 0, and
+ * - nothing is written: all lent buffers are as they were before the call.
+ */
+
+#ifndef TUMBELIKO_H
+#define TUMBELIKO_H
+
+#include <stdbool.h>
+#include <stddef.h>
+#include <stdint.h>
+
+#ifdef __cplusplus
+extern "C" {
+#endif
+
+/* ====================================================================
+ * The table of boards
+ *
+ * Four numbers, the same at all boards of a broadcast, and handed to most
+ * calls in this order:
+ *
+ *   n         number of boards, 1 to 64; the boards have numbers 1 to n
+ *   t         how many of them may break the rules, with 3t < n
+ *   sender    the number of the board whose message it is, 1 to n
+ *   longest   L, the longest message in bytes, 0 to 16,384
+ *
+ * A call that takes the table refuses it with 1 if any of the four is
+ * outside its limits, `sender` too where it plays no part in the work.
+ */
+
+#define TUMBELIKO_BOARDS_MAX    64
+#define TUMBELIKO_LONGEST_MAX   16384
+
+/* k, how many fragments give the message back. */
+#define TUMBELIKO_K(n, t)   ((size_t)(n) - 2 * (size_t)(t))
+
+/* s_max, the length of a fragment of the longest message. */
+#define TUMBELIKO_S_MAX(n, t, longest) \
+    (((size_t)(longest) + 4 + TUMBELIKO_K(n, t) - 1) / TUMBELIKO_K(n, t))
+
+/* ====================================================================
+ * Sizes of buffers, in bytes
+ *
+ * The macros take a table within its limits and are constant expressions
+ * if their arguments are: `uint8_t area[TUMBELIKO_AREA_BYTES(7, 5463)];`.
+ */
+
+/* A root, a node of a path, a digest. */
+#define TUMBELIKO_ROOT_BYTES    32
+#define TUMBELIKO_NODE_BYTES    32
+
+/* The most nodes of a path, and the room that each path has. */
+#define TUMBELIKO_NODES_MAX     6
+#define TUMBELIKO_PATH_BYTES    192
+
+/* The most bytes to hash, and the longest fragment of a path check. */
+#define TUMBELIKO_HASH_MAX      65536
+#define TUMBELIKO_FRAGMENT_MAX  65535
+
+/* A fragment area: the fragment of board i starts at (i - 1) * s_max. */
+#define TUMBELIKO_AREA_BYTES(n, s_max)  ((size_t)(n) * (size_t)(s_max))
+
+/* All paths: the path of board i starts at (i - 1) * 192. */
+#define TUMBELIKO_PATHS_BYTES(n)        ((size_t)(n) * TUMBELIKO_PATH_BYTES)
+
+/* A list of fragment lengths: that of board i at 2 * (i - 1), two bytes,
+ * high byte first. */
+#define TUMBELIKO_LENGTHS_BYTES(n)      ((size_t)(n) * 2)
+
+/* A block: length of the message in 4 bytes, high byte first, then the
+ * message, then zeros up to a multiple of k. */
+#define TUMBELIKO_BLOCK_BYTES(n, t, s_max)  (TUMBELIKO_K(n, t) * (size_t)(s_max))
+
+/* A board's state. */
+#define TUMBELIKO_STATE_BYTES(n, s_max) (4608 + (size_t)(n) * (size_t)(s_max))
+
+/* An outgoing record. Every call that puts out a record needs all of it,
+ * also for a vote, which has 39 bytes. */
+#define TUMBELIKO_OUT_BYTES     16619
+
+/* A buffer for a message or a delivery needs `longest` bytes. */
+
+/* ====================================================================
+ * Refusal numbers
+ */
+
+#define TUMBELIKO_OK              0   /* not refused */
+#define TUMBELIKO_BAD_TABLE       1   /* table outside its limits */
+#define TUMBELIKO_SHORT_BUFFER    2   /* a lent buffer shorter than needed */
+#define TUMBELIKO_NOT_SOUND       3   /* state not sound */
+#define TUMBELIKO_NO_SUCH_BOARD   4   /* board number (from, to, or marked) not in 1..n */
+#define TUMBELIKO_BAD_RECORD      5   /* record not of the form of a record */
+#define TUMBELIKO_NOT_THE_SENDER  6   /* send from a board other than the sender */
+#define TUMBELIKO_BAD_FRAGMENT    7   /* fragment longer than s_max
+                                         (rebuilding: a marked one, or a marked length 0) */
+#define TUMBELIKO_LATE            8   /* board done, or a send in the output stage */
+#define TUMBELIKO_SECOND          9   /* second send, echo or vote from that board */
+#define TUMBELIKO_TOO_FEW         10  /* fewer than k fragments marked */
+#define TUMBELIKO_NO_BLOCK        11  /* marked lengths differ, or no block agrees */
+#define TUMBELIKO_UNREADABLE      12  /* block cannot be read */
+#define TUMBELIKO_LONG_MESSAGE    13  /* message longer than L */
+/* 14 is a number of the drill program; no call of this header answers it. */
+#define TUMBELIKO_LONG_HASH       15  /* more than 65,536 bytes to hash */
+
+/* ====================================================================
+ * Results, returned by value
+ */
+
+/* A refusal number, or 0 and a length. */
+typedef struct {
+    uint32_t number, length;
+} tumbeliko_sized;
+
+/* A refusal number, or 0 and a digest. */
+typedef struct {
+    uint32_t number;
+    uint8_t bytes[32];
+} tumbeliko_digest;
+
+/* ====================================================================
+ * Hash
+ *
+ * SHA-256 (FIPS 180-4) of the bytes data[0 .. data_len).
+ *
+ *   data    0 to 65,536 bytes; read
+ *
+ * Refusals: 15 (data_len above 65,536; the bytes of the result are 0 then,
+ * and data is not looked at).
+ * Result: number 0 and the digest.
+ */
+tumbeliko_digest tumbeliko_hash(const uint8_t *data, size_t data_len);
+
+/* ====================================================================
+ * Path check
+ *
+ * Does `fragment` stand at place `board` of the tree (RFC 6962, section
+ * 2.1) over n fragments whose root is `root`? `path` lists the nodes from
+ * the leaf upward, 32 bytes each, one after the other.
+ *
+ *   root        32 bytes; read
+ *   path        32 bytes for each node; read
+ *   fragment    0 to 65,535 bytes; read
+ *
+ * Never refuses. The answer is false, too, if n is not in 1..64, board not
+ * in 1..n, root_len not 32, path_len not 32 times the number of nodes that
+ * a path at that place has, or fragment_len above 65,535. Nothing is
+ * written.
+ *
+ * The number of nodes depends on n and board: 0 for n = 1; 3, 3, 3, 3 and
+ * 1 for the boards of n = 5; 6 for each board of n = 64.
+ */
+bool tumbeliko_path_correct(uint32_t n, uint32_t board,
+                            const uint8_t *root, size_t root_len,
+                            const uint8_t *path, size_t path_len,
+                            const uint8_t *fragment, size_t fragment_len);
+
+/* ====================================================================
+ * Encode
+ *
+ * Cuts `message` into n fragments, and works out the root over them and
+ * the path of each. All fragments have the same length, (message_len + 4)
+ * / k rounded up, which is at most s_max.
+ *
+ *   message   0 to longest bytes; read
+ *   area      TUMBELIKO_AREA_BYTES(n, s_max); written
+ *   root      TUMBELIKO_ROOT_BYTES; written
+ *   paths     TUMBELIKO_PATHS_BYTES(n); written
+ *
+ * Refusals, in this order:
+ *   1    table outside its limits
+ *   2    area, root or paths shorter than above
+ *   13   message_len above longest
+ * Result: number 0 and the length of each fragment.
+ *
+ * Afterwards, for each board i:
+ *   area    the fragment from (i - 1) * s_max on, `length` bytes; the rest
+ *           of its s_max bytes stays
+ *   paths   the path from (i - 1) * 192 on, 32 bytes for each node; the
+ *           rest of its 192 bytes stays
+ * and the first 32 bytes of root are the root. Bytes beyond these stay.
+ *
+ * s_max comes from `longest`, not from the message: see TUMBELIKO_S_MAX.
+ */
+tumbeliko_sized tumbeliko_encode(uint32_t n, uint32_t t, uint32_t sender, uint32_t longest,
+                                 const uint8_t *message, size_t message_len,
+                                 uint8_t *area, size_t area_len,
+                                 uint8_t *root, size_t root_len,
+                                 uint8_t *paths, size_t paths_len);
+
+/* ====================================================================
+ * Rebuild
+ *
+ * From the fragments of the marked boards, the one block whose fragments
+ * are all those marked. More than k may be marked: then all of them must
+ * agree. Whether the block can be read as a message is no question here.
+ *
+ *   marked    board i is bit i - 1
+ *   lengths   TUMBELIKO_LENGTHS_BYTES(n); read. Those of boards that are
+ *             not marked are not looked at
+ *   area      TUMBELIKO_AREA_BYTES(n, s_max); read. Bytes of boards that
+ *             are not marked, and those after a fragment, are not looked at
+ *   block     TUMBELIKO_BLOCK_BYTES(n, t, s_max); written
+ *
+ * Refusals, in this order:
+ *   1    table outside its limits
+ *   2    lengths, area or block shorter than above
+ *   4    a board above n is marked
+ *   7    the length of a marked fragment is 0 or above s_max
+ *   10   fewer than k fragments marked
+ *   11   marked lengths differ, or no block agrees with all marked ones
+ * Result: number 0 and the length of the block, k times that of a fragment.
+ *
+ * Afterwards the first `length` bytes of block are the block; bytes beyond
+ * these stay.
+ */
+tumbeliko_sized tumbeliko_rebuild(uint32_t n, uint32_t t, uint32_t sender, uint32_t longest,
+                                  uint64_t marked,
+                                  const uint8_t *lengths, size_t lengths_len,
+                                  const uint8_t *area, size_t area_len,
+                                  uint8_t *block, size_t block_len);
+
+/* ====================================================================
+ * Read block
+ *
+ * The message of a block. `block_len` is the length of the block itself,
+ * as tumbeliko_rebuild answers it, not that of a longer buffer around it.
+ *
+ *   block     block_len bytes; read
+ *   message   longest bytes; written
+ *
+ * Refusals, in this order:
+ *   1    table outside its limits
+ *   2    message_len below longest
+ *   12   block_len below 4 or no multiple of k; or the length that the
+ *        block names is above longest; or that length + 4, divided by k
+ *        and rounded up, is not block_len / k
+ * Result: number 0 and the length of the message.
+ *
+ * Afterwards the first `length` bytes of message are the message; bytes
+ * beyond these stay. The bytes of the block after the message are not
+ * looked at.
+ */
+tumbeliko_sized tumbeliko_read_block(uint32_t n, uint32_t t, uint32_t sender, uint32_t longest,
+                                     const uint8_t *block, size_t block_len,
+                                     uint8_t *message, size_t message_len);
+
+#ifdef __cplusplus
+}
+#endif
+
+#endif

@@ -1,0 +1,497 @@
+/*
+ * The reference itself, tried on the sentences of document 01: what the
+ * library is held against must be right first.
+ */
+
+#include <stdlib.h>
+#include <string.h>
+#include "harness.h"
+#include "reference.h"
+
+enum { SEND = 1, ECHO = 2, VOTE = 3 };
+enum { NONE = 0, MESSAGE = 1, VOID = 2 };
+
+static uint8_t out[REF_OUT], delivery[REF_LONGEST], record[20000], bytes[70000];
+
+/* ---- worked out by hand */
+
+static void products_worked_out_by_hand(void)
+{
+    uint8_t power = 1;
+    bool seen[256] = { false };
+
+    CHECK(ref_mul(2, 128) == 29);
+    CHECK(ref_mul(2, 142) == 1);
+    CHECK(ref_mul(3, 3) == 5);
+    CHECK(ref_mul(0, 200) == 0);
+    for (int i = 0; i < 255; i++) {     /* 2 is a generator */
+        CHECK(!seen[power]);
+        seen[power] = true;
+        power = ref_mul(power, 2);
+    }
+    CHECK(power == 1);
+}
+
+static void quorums_worked_out_by_hand(void)
+{
+    static const uint32_t rows[][5] = { { 1, 0, 1, 1, 1 }, { 4, 1, 3, 2, 2 }, { 64, 21, 43, 22, 22 } };
+    ref_table bad = { 3, 1, 1, 0 };
+
+    for (int i = 0; i < 3; i++) {
+        ref_table table = { rows[i][0], rows[i][1], 1, 0 };
+
+        CHECK(ref_table_within_limits(table));
+        CHECK(table.n - table.t == rows[i][2]);
+        CHECK(table.t + 1 == rows[i][3]);
+        CHECK(ref_k(table) == rows[i][4]);
+    }
+    CHECK(!ref_table_within_limits(bad));
+}
+
+static void a_vote_record_has_39_bytes(void)
+{
+    static const uint8_t root[32] = { 9 };
+
+    CHECK(ref_write_record(VOTE, root, 32, root, 0, root, 0, out, sizeof out).length == 39);
+    CHECK(ref_read_record(out, 39).kind == VOTE);
+    CHECK(memcmp(out, "\x03\x00\x20\x09", 4) == 0);
+}
+
+/* ---- records */
+
+static void path_count_6_is_read_and_7_refused_with_5(void)
+{
+    memset(record, 0, sizeof record);
+    record[0] = SEND;
+    record[2] = 32;
+    for (uint8_t nodes = 0; nodes <= 8; nodes++) {
+        size_t at = 37 + 32 * (size_t)nodes;
+
+        record[36] = nodes;
+        record[at + 1] = 1;
+        CHECK(ref_read_record(record, at + 3).number == (nodes <= 6 ? 0 : 5));
+        record[at + 1] = 0;
+    }
+}
+
+static void kinds_0_and_4_to_255_are_refused_with_5(void)
+{
+    static const uint8_t parts[192];
+
+    for (uint32_t kind = 0; kind <= 600; kind++) {
+        bool good = kind >= 1 && kind <= 3;
+        size_t len = kind == VOTE ? 0 : 5;
+
+        CHECK(ref_write_record(kind, parts, 32, parts, 0, parts, len, out, sizeof out).number == (good ? 0 : 5));
+        memset(record, 0, 100);
+        record[0] = (uint8_t)kind;
+        record[2] = 32;
+        record[38] = (uint8_t)len;
+        if (kind < 256)
+            CHECK(ref_read_record(record, 39 + len).number == (good ? 0 : 5));
+    }
+}
+
+static void what_is_written_is_read_and_no_other_length_is(void)
+{
+    for (int i = 0; i < 200; i++) {
+        uint32_t kind = 1 + random_below(3), nodes = kind == VOTE ? 0 : random_below(7);
+        uint32_t len = kind == VOTE ? 0 : 1 + random_below(i < 5 ? 16388 : 60);
+        ref_sized written;
+        ref_parts read;
+
+        random_bytes(bytes, sizeof bytes);
+        written = ref_write_record(kind, bytes, 32, bytes + 100, 32 * nodes, bytes + 400, len, out, sizeof out);
+        CHECK(written.number == 0 && written.length == 39 + 32 * nodes + len);
+        read = ref_read_record(out, written.length);
+        CHECK(read.number == 0 && read.kind == kind && read.nodes == nodes && read.fragment_length == len);
+        CHECK(memcmp(out + 3, bytes, 32) == 0);
+        CHECK(memcmp(out + 37, bytes + 100, 32 * nodes) == 0);
+        CHECK(memcmp(out + 39 + 32 * nodes, bytes + 400, len) == 0);
+        for (size_t other = 0; other <= written.length + 3 && other < sizeof out; other++)
+            CHECK((ref_read_record(out, other).number == 0) == (other == written.length));
+    }
+}
+
+static void fragments_of_16388_bytes_are_written_and_longer_ones_refused_with_5(void)
+{
+    CHECK(ref_write_record(ECHO, bytes, 32, bytes, 192, bytes, 16388, out, REF_OUT).length == REF_OUT);
+    CHECK(ref_write_record(ECHO, bytes, 32, bytes, 192, bytes, 16389, out, REF_OUT).number == 5);
+    CHECK(ref_write_record(ECHO, bytes, 32, bytes, 192, bytes, 0, out, REF_OUT).number == 5);
+    CHECK(ref_write_record(ECHO, bytes, 32, bytes, 224, bytes, 1, out, REF_OUT).number == 5);
+    CHECK(ref_write_record(ECHO, bytes, 31, bytes, 192, bytes, 1, out, REF_OUT).number == 5);
+    CHECK(ref_write_record(VOTE, bytes, 32, bytes, 32, bytes, 0, out, REF_OUT).number == 5);
+    CHECK(ref_write_record(VOTE, bytes, 32, bytes, 0, bytes, 1, out, REF_OUT).number == 5);
+    CHECK(ref_write_record(0, bytes, 31, bytes, 0, bytes, 1, out, REF_OUT - 1).number == 2);
+}
+
+/* ---- boards */
+
+#define MOST 10         /* boards of a run */
+static ref_board boards[MOST], before;
+
+static size_t state_len(ref_table table)
+{
+    return REF_STATE_HEAD + (size_t)table.n * ref_s_max(table);
+}
+
+static ref_stepped step(ref_board *board, uint32_t from, const uint8_t *bytes_of, size_t len)
+{
+    return ref_step(board, state_len(board->table), from, bytes_of, len, out, sizeof out, delivery, sizeof delivery);
+}
+
+static void one_board_delivers_its_own_message(void)
+{
+    ref_board *b = &boards[0];
+    ref_sized sent;
+    ref_stepped did;
+
+    CHECK(ref_start(1, 0, 1, 16, 1, b, 4628) == 0);
+    sent = ref_send(1, 0, 1, 16, (const uint8_t *)"A", 1, 1, record, REF_OUT);
+    did = step(b, 1, record, sent.length);
+    CHECK(did.number == 0 && out[0] == ECHO && did.record_length == sent.length && did.delivery == NONE);
+    memcpy(record, out, did.record_length);
+    did = step(b, 1, record, did.record_length);
+    CHECK(did.number == 0 && out[0] == VOTE && did.record_length == 39 && did.delivery == NONE);
+    memcpy(record, out, 39);
+    did = step(b, 1, record, 39);
+    CHECK(did.number == 0 && did.record_length == 0 && did.delivery == MESSAGE);
+    CHECK(did.message_length == 1 && delivery[0] == 'A');
+    CHECK(step(b, 1, record, 39).number == 8);
+}
+
+/* Every combination of the faults of a step that can stand together. */
+static void a_step_looks_in_the_order_3_2_4_5_6_7_8_9(void)
+{
+    ref_table table = { 4, 1, 2, 16 };
+
+    for (unsigned faults = 0; faults < 512; faults++) {
+        static const uint32_t order[] = { 2, 3, 2, 4, 5, 6, 7, 8, 9 };
+        ref_board *b = &boards[0];
+        size_t state = state_len(table), len = 40;
+        uint32_t from = 2, number = 0;
+        ref_stepped did;
+
+        CHECK(ref_start(table.n, table.t, table.sender, table.longest, 1, b, state) == 0);
+        memset(record, 0, sizeof record);
+        record[0] = SEND;
+        record[2] = 32;
+        record[38] = 1;
+        if (faults & 1)
+            state = 4607;
+        if (faults & 2)
+            b->usable = 1;
+        if (faults & 4 && !(faults & 1))
+            state--;
+        if (faults & 64) {      /* one byte above s_max */
+            record[38] = 11;
+            len = 50;
+        }
+        if (faults & 8)
+            from = 5;
+        if (faults & 16)
+            len++;
+        if (faults & 32 && !(faults & 8))
+            from = 3;
+        if (faults & 128)
+            b->voted = b->output = b->done = true;
+        if (faults & 256)
+            b->acquired = true;
+        for (int f = 8; f >= 0; f--)
+            if (faults >> f & 1)
+                number = order[f];
+        before = *b;
+        did = ref_step(b, state, from, record, len, out, sizeof out, delivery, sizeof delivery);
+        CHECK(did.number == number);
+        if (number != 0) {
+            CHECK(did.record_length == 0 && did.delivery == NONE && did.message_length == 0);
+            CHECK(memcmp(&before, b, sizeof before) == 0);
+        }
+    }
+}
+
+static void out_and_delivery_are_needed_in_every_step(void)
+{
+    ref_table table = { 4, 1, 2, 16 };
+    size_t state = state_len(table);
+
+    CHECK(ref_start(4, 1, 2, 16, 1, &boards[0], state) == 0);
+    memset(record, 0, 39);
+    record[0] = VOTE;
+    record[2] = 32;
+    CHECK(ref_step(&boards[0], state, 1, record, 39, out, REF_OUT - 1, delivery, 16).number == 2);
+    CHECK(ref_step(&boards[0], state, 1, record, 39, out, REF_OUT, delivery, 15).number == 2);
+    CHECK(ref_step(&boards[0], state, 1, record, 39, out, REF_OUT, delivery, 16).number == 0);
+    CHECK(ref_step(&boards[0], state, 1, record, 39, out, REF_OUT, delivery, 16).number == 9);
+}
+
+/* ---- whole runs: all that is put out is handed over, in random order */
+
+typedef struct {
+    uint32_t from, to;
+    size_t len;
+    uint8_t *bytes;
+} letter;
+
+static letter post[20000];
+static size_t posted;
+
+static void hand_in(uint32_t from, uint32_t to, const uint8_t *what, size_t len)
+{
+    letter *one = &post[posted];
+
+    if (posted == sizeof post / sizeof *post)
+        return;
+    one->bytes = malloc(len + 1);
+    if (one->bytes == NULL)
+        return;
+    memcpy(one->bytes, what, len);
+    one->from = from;
+    one->to = to;
+    one->len = len;
+    posted++;
+}
+
+/* What a sender does in a run. */
+enum { KEEPS_RULES, TWO_MESSAGES, NO_POLYNOMIAL, UNREADABLE, HALF_SENT, SENDERS };
+
+static void send_all(ref_table table, int manner, const uint8_t *message, size_t len)
+{
+    static uint8_t area[4 * REF_FRAGMENT], root[32], paths[MOST * 192];
+    uint32_t s_max = ref_s_max(table), length;
+    size_t nodes[REF_BOARDS];
+
+    length = ref_encode(table.n, table.t, table.sender, table.longest, message, len, area, sizeof area,
+                        root, 32, paths, sizeof paths).length;
+    if (manner == NO_POLYNOMIAL)
+        random_bytes(area, table.n * s_max);
+    if (manner == UNREADABLE)           /* the same constant polynomial in row 1: length far above L */
+        for (uint32_t i = 0; i < table.n; i++)
+            area[i * s_max] = 0x55;
+    ref_tree(area, s_max, length, table.n, root, paths, nodes);
+    for (uint32_t to = 1; to <= table.n; to++) {
+        ref_sized sent;
+
+        if (manner == HALF_SENT && to > table.n / 2)
+            continue;
+        if (manner == TWO_MESSAGES && to % 2 && len > 0)
+            sent = ref_send(table.n, table.t, table.sender, table.longest, message, len - 1, to, record, REF_OUT);
+        else
+            sent = ref_write_record(SEND, root, 32, paths + (to - 1) * 192, 32 * nodes[to - 1],
+                                    area + (to - 1) * s_max, length, record, REF_OUT);
+        CHECK(sent.number == 0);
+        hand_in(table.sender, to, record, sent.length);
+    }
+}
+
+/* Something a rule-breaker might say: an old record, changed or not. */
+static void say_something(ref_table table, uint32_t from)
+{
+    const letter *old = posted == 0 ? NULL : &post[random_below((uint32_t)posted)];
+    size_t len = old == NULL ? random_below(60) : old->len;
+
+    random_bytes(record, 60);
+    if (old != NULL)
+        memcpy(record, old->bytes, len);
+    if (len > 0 && random_below(2))
+        record[0] = (uint8_t)(1 + random_below(3));
+    if (len > 0 && random_below(3) == 0)
+        record[random_below((uint32_t)len)] ^= (uint8_t)(1 << random_below(8));
+    if (random_below(8) == 0 && len > 0)
+        len--;
+    hand_in(from, 1 + random_below(table.n), record, len);
+}
+
+/* how many runs ended in each way */
+static unsigned outcomes[3];
+
+/* One run. Boards that break the rules are the set `bad`. */
+static void run(ref_table table, uint64_t bad, int manner)
+{
+    uint32_t outcome[MOST] = { NONE }, first = 0, over = 0, good = 0;
+    static uint8_t message[REF_LONGEST], delivered[MOST][REF_LONGEST];
+    uint32_t delivered_len[MOST] = { 0 };
+    size_t len = random_below(table.longest + 1);
+
+    posted = 0;
+    random_bytes(message, len);
+    for (uint32_t i = 1; i <= table.n; i++)
+        CHECK(ref_start(table.n, table.t, table.sender, table.longest, i, &boards[i - 1], state_len(table)) == 0);
+    send_all(table, manner, message, len);
+    for (uint32_t i = 1; i <= table.n; i++)
+        for (int j = 0; bad >> (i - 1) & 1 && j < 20; j++)
+            say_something(table, i);
+    for (size_t taken = 0; taken < posted; taken++) {
+        size_t pick = taken + random_below((uint32_t)(posted - taken));
+        letter one = post[pick];
+        ref_board *b = &boards[one.to - 1];
+        ref_stepped did;
+
+        post[pick] = post[taken];
+        post[taken] = one;
+        if (bad >> (one.to - 1) & 1)
+            continue;
+        did = step(b, one.from, one.bytes, one.len);
+        CHECK(ref_sound(b));
+        CHECK(did.record_length == 0 || did.delivery == NONE);
+        for (uint32_t to = 1; did.record_length > 0 && to <= table.n; to++)
+            hand_in(one.to, to, out, did.record_length);
+        if (did.delivery != NONE) {
+            CHECK(outcome[one.to - 1] == NONE);
+            CHECK(b->done);
+            outcome[one.to - 1] = did.delivery;
+            delivered_len[one.to - 1] = did.message_length;
+            memcpy(delivered[one.to - 1], delivery, did.message_length);
+        }
+    }
+    for (size_t i = 0; i < posted; i++)
+        free(post[i].bytes);
+    for (uint32_t i = 0; i < table.n; i++) {
+        if (bad >> i & 1)
+            continue;
+        good++;
+        over += outcome[i] != NONE;
+        if (outcome[i] != NONE && first == 0)
+            first = i + 1;
+        if (first != 0) {       /* agreement */
+            CHECK(outcome[i] == NONE || outcome[i] == outcome[first - 1]);
+            CHECK(outcome[i] == NONE || (delivered_len[i] == delivered_len[first - 1]
+                  && memcmp(delivered[i], delivered[first - 1], delivered_len[i]) == 0));
+        }
+    }
+    CHECK(over == 0 || over == good);           /* all or none */
+    if (manner == KEEPS_RULES) {
+        CHECK(over == good);
+        CHECK(first != 0 && outcome[first - 1] == MESSAGE && delivered_len[first - 1] == len
+              && memcmp(delivered[first - 1], message, len) == 0);
+    }
+    if (manner == UNREADABLE || manner == NO_POLYNOMIAL)
+        CHECK(over == 0 || outcome[first - 1] == VOID);
+    if (over > 0)
+        outcomes[outcome[first - 1]]++;
+    else
+        outcomes[NONE]++;
+}
+
+static ref_table run_table(void)
+{
+    ref_table table;
+
+    table.n = 1 + random_below(MOST);
+    table.t = random_below((table.n - 1) / 3 + 1);
+    table.sender = 1 + random_below(table.n);
+    table.longest = random_below(100);
+    return table;
+}
+
+static void a_rule_keeping_sender_s_message_is_delivered_by_all(void)
+{
+    for (int i = 0; i < 300; i++)
+        run(run_table(), 0, KEEPS_RULES);
+}
+
+static void rule_breaking_boards_do_not_keep_the_others_apart(void)
+{
+    for (int i = 0; i < 1500; i++) {
+        ref_table table = run_table();
+        uint64_t bad = 0;
+        int manner = i % SENDERS;
+
+        for (uint32_t left = table.t; left > 0; left--)
+            bad |= (uint64_t)1 << random_below(table.n);
+        if (manner == KEEPS_RULES)
+            bad &= ~((uint64_t)1 << (table.sender - 1));
+        else if (table.t == 0)
+            continue;
+        else
+            bad = (bad & (bad - 1)) | (uint64_t)1 << (table.sender - 1);
+        run(table, bad, manner);
+    }
+    CHECK(outcomes[NONE] > 0 && outcomes[MESSAGE] > 0 && outcomes[VOID] > 0);
+}
+
+/* ---- the library's bytes of a state */
+
+static void put_two(uint8_t *to, uint64_t value)
+{
+    to[0] = (uint8_t)(value >> 8);
+    to[1] = (uint8_t)value;
+}
+
+static void a_state_s_bytes_are_decoded_field_by_field(void)
+{
+    static uint8_t state[REF_STATE_HEAD + 4 * REF_FRAGMENT];
+
+    for (int i = 0; i < 50; i++) {
+        ref_board *b = &boards[0], *decoded = &boards[1];
+        ref_table table = run_table();
+        uint32_t s_max = ref_s_max(table);
+        const uint64_t *sets[3] = { &b->echoes, &b->usable, &b->votes };
+
+        random_bytes((uint8_t *)&b->echoes, sizeof b->echoes);
+        random_bytes((uint8_t *)&b->usable, sizeof b->usable);
+        random_bytes((uint8_t *)&b->votes, sizeof b->votes);
+        random_bytes(&b->echo_root[0][0], sizeof b->echo_root);
+        random_bytes(&b->vote_root[0][0], sizeof b->vote_root);
+        random_bytes(state, sizeof state);
+        state[0] = (uint8_t)table.n;
+        state[1] = (uint8_t)table.t;
+        state[2] = (uint8_t)table.sender;
+        state[3] = (uint8_t)random_below(256);
+        put_two(state + 4, table.longest);
+        for (int f = 0; f < 4; f++)
+            state[6 + f] = (uint8_t)(random_below(2) ? random_below(256) : 0);
+        for (int s = 0; s < 3; s++)
+            for (int j = 0; j < 4; j++)
+                put_two(state + 10 + 8 * s + 2 * j, *sets[s] >> (48 - 16 * j));
+        memcpy(state + 256, b->echo_root, 2048);
+        memcpy(state + 2304, b->vote_root, 2048);
+        ref_decode(state, sizeof state, decoded);
+        CHECK(decoded->table.n == table.n && decoded->table.t == table.t && decoded->table.sender == table.sender);
+        CHECK(decoded->table.longest == table.longest && decoded->own == state[3]);
+        CHECK(decoded->acquired == (state[6] != 0) && decoded->voted == (state[7] != 0));
+        CHECK(decoded->output == (state[8] != 0) && decoded->done == (state[9] != 0));
+        CHECK(decoded->echoes == b->echoes && decoded->usable == b->usable && decoded->votes == b->votes);
+        CHECK(memcmp(decoded->echo_root, b->echo_root, 2048) == 0);
+        CHECK(memcmp(decoded->vote_root, b->vote_root, 2048) == 0);
+        for (uint32_t j = 0; j < 64; j++)
+            CHECK(decoded->kept[j] == state[40 + 2 * j] * 256u + state[41 + 2 * j]);
+        for (uint32_t j = 0; j < table.n; j++)
+            CHECK(memcmp(decoded->fragment[j], state + REF_STATE_HEAD + j * s_max, s_max) == 0);
+    }
+}
+
+static const test hand_tests[] = {
+    TEST(products_worked_out_by_hand),
+    TEST(quorums_worked_out_by_hand),
+    TEST(a_vote_record_has_39_bytes),
+};
+
+static const test record_tests[] = {
+    TEST(path_count_6_is_read_and_7_refused_with_5),
+    TEST(kinds_0_and_4_to_255_are_refused_with_5),
+    TEST(what_is_written_is_read_and_no_other_length_is),
+    TEST(fragments_of_16388_bytes_are_written_and_longer_ones_refused_with_5),
+};
+
+static const test board_tests[] = {
+    TEST(one_board_delivers_its_own_message),
+    TEST(a_step_looks_in_the_order_3_2_4_5_6_7_8_9),
+    TEST(out_and_delivery_are_needed_in_every_step),
+    TEST(a_state_s_bytes_are_decoded_field_by_field),
+};
+
+static const test run_tests[] = {
+    TEST(a_rule_keeping_sender_s_message_is_delivered_by_all),
+    TEST(rule_breaking_boards_do_not_keep_the_others_apart),
+};
+
+int main(int argc, char **argv)
+{
+    static const group groups[] = {
+        GROUP("by hand", hand_tests), GROUP("records", record_tests), GROUP("boards", board_tests),
+        GROUP("runs", run_tests),
+    };
+
+    return run_groups(groups, sizeof groups / sizeof *groups, argc, argv);
+}
