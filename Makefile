@@ -5,6 +5,8 @@ CXX     = g++
 CFLAGS  = -std=c99 -Wall -Wextra -Wconversion -Werror -O2
 LIB     = build/libtumbeliko.a
 SEED    =
+RUNS    =
+MINUTES = 10
 
 # The archive is for x86-64 Linux. Elsewhere its users are built by a cross compiler and run by an emulator
 # (tests/tools.sh installs both), unless LIB names another archive.
@@ -21,7 +23,8 @@ endif
 CRATES    = crates.txt $(wildcard crates/*/src/*.rt crates/*/specs/*.antt crates/*/proofs/*.antt crates/*/proofs/*/*.antt)
 REFERENCE = tests/reference/hash.c tests/reference/code.c tests/reference/board.c
 HARNESS   = tests/harness.c
-HEADERS   = include/tumbeliko.h tests/harness.h tests/reference/reference.h bench/plain.h
+TREES     = tests/trees.c
+HEADERS   = include/tumbeliko.h tests/harness.h tests/trees.h tests/reference/reference.h bench/plain.h
 BUILD     = $(CC) $(CFLAGS) $(CPPFLAGS) -Iinclude -Itests $(LINK)
 
 # Is there a header $(1), and does it link with $(2)?
@@ -31,18 +34,21 @@ KNOWN = $(if $(call have,openssl/sha.h,-lcrypto),-DHAVE_OPENSSL -lcrypto) \
         $(if $(call have,bearssl.h,-lbearssl),-DHAVE_BEARSSL -lbearssl) \
         $(if $(call have,isa-l/erasure_code.h,-lisal),-DHAVE_ISAL -lisal)
 
-.PHONY: help test lib demo bench stack clean tools library-test header-test reference-test vectors-test ground-test
+.PHONY: help test lib demo line-demo bench stack soak clean tools
+.PHONY: library-test header-test reference-test vectors-test ground-test board-test line-test
 
 help:
 	@echo "make test     everything: the prover's gate, then the tests in C against the library"
-	@echo "make demo     a message cut into fragments and rebuilt from some of them"
+	@echo "make demo     a message cut into fragments and rebuilt from some of them; then spread over a line of boards, one of which lies"
 	@echo "make lib      prove the library and write build/libtumbeliko.a"
 	@echo "make bench    times beside plain C and known libraries, and the stack of each call"
 	@echo "make stack    the stack of each call alone"
+	@echo "make soak     whole lines of boards for MINUTES=10, each time with a new seed"
 	@echo "make clean    remove build/ and target/"
 	@echo
-	@echo "one part of the tests: library-test header-test reference-test vectors-test ground-test"
+	@echo "one part of the tests: library-test header-test reference-test vectors-test ground-test board-test line-test"
 	@echo "SEED=number   other random bytes for the tests in C"
+	@echo "RUNS=number   how many runs of lines; 20,000 if not given"
 	@echo "LIB=path      another archive"
 
 test:
@@ -74,9 +80,17 @@ build/vectors-test: tests/vectors.c $(HARNESS) $(HEADERS) $(LIB) | build $(TOOLS
 	@echo "building $@ with $(LIB)"
 	@$(BUILD) tests/vectors.c $(HARNESS) $(LIB) $(LDFLAGS) -o $@
 
-build/bench: bench/bench.c bench/plain.c $(HEADERS) $(LIB) | build $(TOOLS)
+build/board-test: tests/board.c $(TREES) $(HARNESS) $(REFERENCE) $(HEADERS) $(LIB) | build $(TOOLS)
+	@echo "building $@ with $(LIB)"
+	@$(BUILD) tests/board.c $(TREES) $(HARNESS) $(REFERENCE) $(LIB) $(LDFLAGS) -o $@
+
+build/line-test: tests/line.c $(TREES) $(HARNESS) $(REFERENCE) $(HEADERS) $(LIB) | build $(TOOLS)
+	@echo "building $@ with $(LIB)"
+	@$(BUILD) tests/line.c $(TREES) $(HARNESS) $(REFERENCE) $(LIB) $(LDFLAGS) -o $@
+
+build/bench: bench/bench.c bench/plain.c $(REFERENCE) $(HEADERS) $(LIB) | build $(TOOLS)
 	@echo "building $@ with $(LIB), and known libraries: $(or $(filter -l%,$(KNOWN)),none)"
-	@$(BUILD) $(filter -D%,$(KNOWN)) bench/bench.c bench/plain.c $(LIB) $(LDFLAGS) $(filter -l%,$(KNOWN)) -o $@
+	@$(BUILD) $(filter -D%,$(KNOWN)) bench/bench.c bench/plain.c $(REFERENCE) $(LIB) $(LDFLAGS) $(filter -l%,$(KNOWN)) -o $@
 
 build/stack: bench/stack.c $(HEADERS) $(LIB) | build $(TOOLS)
 	@echo "building $@ with $(LIB)"
@@ -85,6 +99,10 @@ build/stack: bench/stack.c $(HEADERS) $(LIB) | build $(TOOLS)
 build/demo: examples/ground.c $(HEADERS) $(LIB) | build $(TOOLS)
 	@echo "building $@ with $(LIB)"
 	@$(BUILD) examples/ground.c $(LIB) $(LDFLAGS) -o $@
+
+build/line-demo: examples/line.c $(HEADERS) $(LIB) | build $(TOOLS)
+	@echo "building $@ with $(LIB)"
+	@$(BUILD) examples/line.c $(LIB) $(LDFLAGS) -o $@
 
 library-test: lib
 	@nm $(LIB) 2>/dev/null | grep -q ' T tumbeliko_hash$$'
@@ -106,6 +124,24 @@ vectors-test: build/vectors-test
 ground-test: build/ground-test
 	@$(RUN) build/ground-test $(SEED)
 
+board-test: build/board-test
+	@$(RUN) build/board-test $(SEED)
+
+line-test: build/line-test
+	@$(RUN) build/line-test $(or $(RUNS),20000) $(SEED)
+
+# A new seed each time; stops at the first failure, and says which seed it was.
+soak: build/line-test
+	@end=$$(($$(date +%s) + 60 * $(MINUTES))); seed=$(or $(SEED),$$(date +%s)); times=0; \
+	echo "whole lines of boards for $(MINUTES) minutes, from seed $$seed on"; \
+	while [ $$(date +%s) -lt $$end ]; do \
+	    $(RUN) build/line-test $(or $(RUNS),20000) $$seed > build/soak.log || \
+	        { tail -n 40 build/soak.log; echo "failed with seed $$seed"; exit 1; }; \
+	    grep ' messages and ' build/soak.log; \
+	    seed=$$((seed + 1)); times=$$((times + 1)); \
+	done; \
+	echo "$$times passed, 0 failed"
+
 bench: build/bench stack
 	@echo "times, the best of many"
 	@$(RUN) build/bench$(NOTE)
@@ -114,8 +150,13 @@ stack: build/stack
 	@echo "stack of each call, painted"
 	@$(RUN) build/stack
 
-demo: build/demo
+demo: build/demo build/line-demo
 	@$(RUN) build/demo
+	@echo
+	@$(RUN) build/line-demo
+
+line-demo: build/line-demo
+	@$(RUN) build/line-demo
 
 clean:
 	@rm -rf build target

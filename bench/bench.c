@@ -1,6 +1,7 @@
 /*
  * The speed of each call, beside plain C and known libraries on the same
- * input in the same run. Prints a Markdown table; each time is the best of
+ * input in the same run, and of the calls of records and boards beside the
+ * reference of the tests. Prints Markdown tables; each time is the best of
  * many. Answers are compared before anything is timed.
  *
  * Libraries are used as far as they were found: HAVE_OPENSSL, HAVE_BEARSSL
@@ -15,6 +16,7 @@
 #include <time.h>
 #include <unistd.h>
 #include "plain.h"
+#include "reference/reference.h"
 #include "tumbeliko.h"
 
 #ifdef HAVE_OPENSSL
@@ -214,15 +216,16 @@ static double now(void)
     return (double)time.tv_sec * 1e6 + (double)time.tv_nsec * 1e-3;
 }
 
-#define TURNS   25
 #define TURN_US 3000
+
+static int turns = 25;
 
 /* The best time of each of three calls, in turns, in microseconds. */
 static void best(void (*const calls[3])(void), double us[3])
 {
     long reps[3] = { 0, 0, 0 };
 
-    for (int turn = 0; turn < TURNS; turn++)
+    for (int turn = 0; turn < turns; turn++)
         for (int c = 0; c < 3; c++) {
             double start, spent;
 
@@ -383,6 +386,265 @@ static void code_rows(void)
     row("read block", "16,384 B", our_read, simple_read, NULL, NULL);
 }
 
+/* ---- records and boards, beside the reference */
+
+#define RECORD 16619
+#define STATE  (TUMBELIKO_STATE_BYTES(1, 3 * (LONGEST + 4) + 64))
+
+static uint8_t record[RECORD], out[RECORD], other_out[RECORD];
+static size_t record_len;
+static uint32_t from;
+static uint8_t (*states)[STATE], base[STATE];
+static ref_board *boards, *other_base;
+
+static void our_reader(void)    { kept = tumbeliko_read_record(record, record_len).fragment_length; }
+static void other_reader(void)  { kept = ref_read_record(record, record_len).fragment_length; }
+
+static void our_writer(void)
+{
+    kept = tumbeliko_write_record(2, root, 32, paths, 96, area, fragment_len, out, sizeof out).length;
+}
+
+static void other_writer(void)
+{
+    kept = ref_write_record(2, root, 32, paths, 96, area, fragment_len, other_out, sizeof other_out).length;
+}
+
+static void our_send(void)
+{
+    kept = tumbeliko_send(n, t, 1, LONGEST, message, LONGEST, n, out, sizeof out).length;
+}
+
+static void other_send(void)
+{
+    kept = ref_send(n, t, 1, LONGEST, message, LONGEST, n, other_out, sizeof other_out).length;
+}
+
+static size_t state_len(void)
+{
+    return TUMBELIKO_STATE_BYTES(n, s_max);
+}
+
+static void our_start(void)
+{
+    kept = tumbeliko_start(n, t, 1, LONGEST, 1, states[0], state_len());
+}
+
+/* One step of board i + 1 by each. */
+static tumbeliko_stepped our_step_of(uint32_t i, uint32_t by, const uint8_t *bytes, size_t len)
+{
+    return tumbeliko_step(states[i], state_len(), by, bytes, len, out, sizeof out, back, sizeof back);
+}
+
+static ref_stepped other_step_of(uint32_t i, uint32_t by, const uint8_t *bytes, size_t len)
+{
+    return ref_step(&boards[i], state_len(), by, bytes, len, other_out, sizeof other_out,
+                    other_back, sizeof other_back);
+}
+
+/* The same step again and again: what a step changes outside the fragments
+ * is put back before it. */
+static void our_step(void)
+{
+    memcpy(states[0], base, 4608);
+    kept = our_step_of(0, from, record, record_len).number;
+}
+
+static void other_step(void)
+{
+    memcpy(&boards[0], other_base, offsetof(ref_board, fragment));
+    kept = other_step_of(0, from, record, record_len).number;
+}
+
+/* The record of that kind that belongs to a board's place. */
+static void make_record(uint32_t kind, uint32_t board)
+{
+    tumbeliko_sized sent = tumbeliko_send(n, t, 1, LONGEST, message, LONGEST, board, record, sizeof record);
+
+    if (kind == 3)
+        sent = tumbeliko_write_record(3, root, 32, root, 0, root, 0, record, sizeof record);
+    record[0] = (uint8_t)kind;
+    record_len = sent.length;
+    from = kind == 1 ? 1 : board;
+}
+
+/* Hands a record of that kind to board 1 from each of the boards. */
+static void hear(uint32_t kind, uint32_t first, uint32_t last)
+{
+    for (uint32_t board = first; board <= last; board++) {
+        make_record(kind, board);
+        must(our_step_of(0, from, record, record_len).number == other_step_of(0, from, record, record_len).number,
+             "step, reference");
+    }
+}
+
+static void begin_board(void)
+{
+    our_encode();
+    fragment_len = kept;
+    our_start();
+    ref_start(n, t, 1, LONGEST, 1, &boards[0], state_len());
+}
+
+static void pair_row(const char *call, const char *input, void (*ours)(void), void (*other)(void))
+{
+    void (*const calls[3])(void) = { ours, other, NULL };
+    double us[3] = { 0, 0, 0 };
+
+    best(calls, us);
+    printf("| %s | %s | %.2f |", call, input, us[0]);
+    if (other == NULL)
+        printf(" - | - |\n");
+    else
+        printf(" %.2f | %.2f |\n", us[1], us[0] / us[1]);
+    fflush(stdout);
+}
+
+/* Times the step of `record` on the board as it stands. */
+static void step_row(const char *what, uint32_t number, uint32_t delivery)
+{
+    char input[60];
+    tumbeliko_stepped ours;
+    ref_stepped other;
+
+    memcpy(base, states[0], 4608);
+    memcpy(other_base, &boards[0], offsetof(ref_board, fragment));
+    ours = our_step_of(0, from, record, record_len);
+    other = other_step_of(0, from, record, record_len);
+    must(ours.number == number && other.number == number && ours.delivery == delivery && other.delivery == delivery
+         && ours.record_length == other.record_length && memcmp(out, other_out, ours.record_length) == 0
+         && ours.message_length == other.message_length && memcmp(back, other_back, ours.message_length) == 0, what);
+    snprintf(input, sizeof input, "%s, n %u, 16,384 B", what, n);
+    pair_row("step", input, our_step, other_step);
+    memcpy(states[0], base, 4608);
+    memcpy(&boards[0], other_base, offsetof(ref_board, fragment));
+}
+
+static void step_rows(void)
+{
+    begin_board();
+    make_record(1, 1);
+    step_row("send", 0, 0);
+    hear(2, 2, n / 2);
+    make_record(2, n);
+    step_row("echo", 0, 0);
+    hear(3, 1, t);
+    make_record(3, n);
+    step_row("vote, put out", 0, 0);
+    hear(3, n, n);
+    make_record(3, n - 1);
+    step_row("vote", 0, 0);
+    make_record(3, n);
+    step_row("refused 9", 9, 0);
+    record_len--;
+    step_row("refused 5", 5, 0);
+    begin_board();
+    hear(2, 1, (uint32_t)k - 1);
+    hear(3, 1, n - t);
+    make_record(2, n);
+    step_row("delivering", 0, 1);
+}
+
+/* ---- a whole broadcast: every record to every board, in turn */
+
+static uint8_t sent[64][6000], echoed[64][6000], voted[64][39];
+static size_t sent_len[64], echoed_len[64];
+
+/* A record to board i + 1; keeps what it puts out, counts what it delivers. */
+static uint32_t broadcast_step(bool ours, uint32_t i, uint32_t by, const uint8_t *bytes, size_t len)
+{
+    const uint8_t *put_out = ours ? out : other_out;
+    uint32_t length, delivery;
+
+    if (ours) {
+        tumbeliko_stepped did = our_step_of(i, by, bytes, len);
+
+        length = did.record_length;
+        delivery = did.delivery;
+    } else {
+        ref_stepped did = other_step_of(i, by, bytes, len);
+
+        length = did.record_length;
+        delivery = did.delivery;
+    }
+    if (length == 39)
+        memcpy(voted[i], put_out, 39);
+    else if (length > 0)
+        memcpy(echoed[i], put_out, echoed_len[i] = length);
+    return delivery == 1;
+}
+
+static void broadcast(bool ours)
+{
+    uint32_t delivered = 0;
+
+    for (uint32_t i = 0; i < n; i++) {
+        if (ours) {
+            tumbeliko_start(n, t, 1, LONGEST, i + 1, states[i], state_len());
+            sent_len[i] = tumbeliko_send(n, t, 1, LONGEST, message, LONGEST, i + 1, out, sizeof out).length;
+            memcpy(sent[i], out, sent_len[i]);
+        } else {
+            ref_start(n, t, 1, LONGEST, i + 1, &boards[i], state_len());
+            sent_len[i] = ref_send(n, t, 1, LONGEST, message, LONGEST, i + 1, other_out, sizeof other_out).length;
+            memcpy(sent[i], other_out, sent_len[i]);
+        }
+    }
+    for (uint32_t i = 0; i < n; i++)
+        broadcast_step(ours, i, 1, sent[i], sent_len[i]);
+    for (uint32_t i = 0; i < n; i++)
+        for (uint32_t j = 0; j < n; j++)
+            broadcast_step(ours, i, j + 1, echoed[j], echoed_len[j]);
+    for (uint32_t i = 0; i < n; i++)
+        for (uint32_t j = 0; j < n; j++)
+            delivered += broadcast_step(ours, i, j + 1, voted[j], 39);
+    kept = delivered;
+}
+
+static void our_broadcast(void)     { broadcast(true); }
+static void other_broadcast(void)   { broadcast(false); }
+
+static void board_rows(void)
+{
+    static const uint32_t tables_of[][2] = { { 7, 2 }, { 64, 21 } };
+    char input[60];
+
+    states = calloc(64, sizeof *states);
+    boards = calloc(64, sizeof *boards);
+    other_base = calloc(1, sizeof *other_base);
+    if (states == NULL || boards == NULL || other_base == NULL) {
+        fprintf(stderr, "bench: no memory for the boards\n");
+        return;
+    }
+    printf("\n| call | input | tumbeliko µs | reference µs | ratio |\n|---|---|---:|---:|---:|\n");
+    for (int i = 0; i < 2; i++) {
+        set_table(tables_of[i][0], tables_of[i][1]);
+        begin_board();
+        make_record(2, n);
+        snprintf(input, sizeof input, "echo, fragment %zu B", fragment_len);
+        must(tumbeliko_read_record(record, record_len).fragment_length == fragment_len, "read record");
+        pair_row("read record", input, our_reader, other_reader);
+        our_writer();
+        other_writer();
+        must(memcmp(out, other_out, kept) == 0, "write record, reference");
+        pair_row("write record", input, our_writer, other_writer);
+        snprintf(input, sizeof input, "n %u", n);
+        pair_row("start", input, our_start, NULL);
+        our_send();
+        other_send();
+        must(memcmp(out, other_out, kept) == 0, "send, reference");
+        snprintf(input, sizeof input, "n %u, 16,384 B", n);
+        pair_row("send", input, our_send, other_send);
+        step_rows();
+        our_broadcast();
+        must(kept == n, "whole broadcast");
+        other_broadcast();
+        must(kept == n, "whole broadcast, reference");
+        turns = n > 10 ? 2 : turns;
+        snprintf(input, sizeof input, "n %u, 16,384 B, %u steps", n, n + 2 * n * n);
+        pair_row("whole broadcast", input, our_broadcast, other_broadcast);
+    }
+}
+
 int main(int argc, char **argv)
 {
     bool switched_off = argc > 1 && strcmp(argv[1], "--openssl-without-sha-instructions") == 0;
@@ -394,6 +656,7 @@ int main(int argc, char **argv)
     plain_begin();
     if (switched_off) {
         hash_rows("OpenSSL, no SHA instructions", false);
+        board_rows();
         return 0;
     }
     printf("| call | input | tumbeliko µs | plain C µs | ratio | library µs | ratio |\n");
@@ -408,5 +671,6 @@ int main(int argc, char **argv)
     execv("/proc/self/exe", (char *[]){ argv[0], "--openssl-without-sha-instructions", NULL });
     perror("bench: OpenSSL without SHA instructions is not timed");
 #endif
+    board_rows();
     return 0;
 }

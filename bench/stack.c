@@ -97,6 +97,47 @@ static tumbeliko_sized no_read(uint32_t a, uint32_t b, uint32_t c, uint32_t d, c
     return nothing;
 }
 
+static tumbeliko_parts no_reader(const uint8_t *r, size_t rl)
+{
+    static const tumbeliko_parts nothing;
+
+    (void)r, (void)rl;
+    return nothing;
+}
+
+static tumbeliko_sized no_writer(uint32_t a, const uint8_t *r, size_t rl, const uint8_t *p, size_t pl,
+                                 const uint8_t *f, size_t fl, uint8_t *o, size_t ol)
+{
+    static const tumbeliko_sized nothing;
+
+    (void)a, (void)r, (void)rl, (void)p, (void)pl, (void)f, (void)fl, (void)o, (void)ol;
+    return nothing;
+}
+
+static uint32_t no_start(uint32_t a, uint32_t b, uint32_t c, uint32_t d, uint32_t e, uint8_t *s, size_t sl)
+{
+    (void)a, (void)b, (void)c, (void)d, (void)e, (void)s, (void)sl;
+    return 0;
+}
+
+static tumbeliko_stepped no_step(uint8_t *s, size_t sl, uint32_t a, const uint8_t *r, size_t rl,
+                                 uint8_t *o, size_t ol, uint8_t *d, size_t dl)
+{
+    static const tumbeliko_stepped nothing;
+
+    (void)s, (void)sl, (void)a, (void)r, (void)rl, (void)o, (void)ol, (void)d, (void)dl;
+    return nothing;
+}
+
+static tumbeliko_sized no_send(uint32_t a, uint32_t b, uint32_t c, uint32_t d, const uint8_t *m, size_t ml,
+                               uint32_t e, uint8_t *o, size_t ol)
+{
+    static const tumbeliko_sized nothing;
+
+    (void)a, (void)b, (void)c, (void)d, (void)m, (void)ml, (void)e, (void)o, (void)ol;
+    return nothing;
+}
+
 static tumbeliko_digest (*volatile hash)(const uint8_t *, size_t);
 static bool (*volatile path_correct)(uint32_t, uint32_t, const uint8_t *, size_t, const uint8_t *, size_t,
                                      const uint8_t *, size_t);
@@ -106,9 +147,22 @@ static tumbeliko_sized (*volatile rebuild)(uint32_t, uint32_t, uint32_t, uint32_
                                            const uint8_t *, size_t, uint8_t *, size_t);
 static tumbeliko_sized (*volatile read_block)(uint32_t, uint32_t, uint32_t, uint32_t, const uint8_t *, size_t,
                                               uint8_t *, size_t);
+static tumbeliko_parts (*volatile reader)(const uint8_t *, size_t);
+static tumbeliko_sized (*volatile writer)(uint32_t, const uint8_t *, size_t, const uint8_t *, size_t,
+                                          const uint8_t *, size_t, uint8_t *, size_t);
+static uint32_t (*volatile start)(uint32_t, uint32_t, uint32_t, uint32_t, uint32_t, uint8_t *, size_t);
+static tumbeliko_stepped (*volatile step)(uint8_t *, size_t, uint32_t, const uint8_t *, size_t,
+                                          uint8_t *, size_t, uint8_t *, size_t);
+static tumbeliko_sized (*volatile send)(uint32_t, uint32_t, uint32_t, uint32_t, const uint8_t *, size_t, uint32_t,
+                                        uint8_t *, size_t);
 
 static void all_real(void)
 {
+    reader = tumbeliko_read_record;
+    writer = tumbeliko_write_record;
+    start = tumbeliko_start;
+    step = tumbeliko_step;
+    send = tumbeliko_send;
     hash = tumbeliko_hash;
     path_correct = tumbeliko_path_correct;
     encode = tumbeliko_encode;
@@ -118,6 +172,11 @@ static void all_real(void)
 
 static void all_empty(void)
 {
+    reader = no_reader;
+    writer = no_writer;
+    start = no_start;
+    step = no_step;
+    send = no_send;
     hash = no_hash;
     path_correct = no_path;
     encode = no_encode;
@@ -150,6 +209,42 @@ static void run_read(void)
     kept = read_block(n, t, 1, LONGEST, block, block_len, back, sizeof back).length;
 }
 
+static uint8_t record[TUMBELIKO_OUT_BYTES], out[TUMBELIKO_OUT_BYTES], state[60000], base[60000];
+static size_t record_len;
+static uint32_t from;
+
+static size_t state_len(void)
+{
+    return TUMBELIKO_STATE_BYTES(n, TUMBELIKO_S_MAX(n, t, LONGEST));
+}
+
+static void run_reader(void)
+{
+    kept = reader(record, record_len).fragment_length;
+}
+
+static void run_writer(void)
+{
+    kept = writer(2, root, 32, paths, 32 * nodes, area, fragment_len, out, sizeof out).length;
+}
+
+static void run_start(void)
+{
+    kept = start(n, t, 1, LONGEST, 1, state, sizeof state);
+}
+
+static void run_send(void)
+{
+    kept = send(n, t, 1, LONGEST, message, LONGEST, n, out, sizeof out).length;
+}
+
+/* A step from the same state each time. */
+static void run_step(void)
+{
+    memcpy(state, base, sizeof state);
+    kept = step(state, sizeof state, from, record, record_len, out, sizeof out, back, sizeof back).delivery;
+}
+
 /* The call's own bytes: its return address and all below it. */
 static size_t used(void (*run)(void))
 {
@@ -171,6 +266,63 @@ static void line(const char *call, const char *input, void (*run)(void))
     if (bytes > worst)
         worst = bytes;
     printf("| %s | %s | %zu |\n", call, input, bytes);
+}
+
+/* The record of that kind that belongs to a board's place. */
+static void make_record(uint32_t kind, uint32_t board)
+{
+    record_len = tumbeliko_send(n, t, 1, LONGEST, message, LONGEST, board, record, sizeof record).length;
+    if (kind == 3)
+        record_len = tumbeliko_write_record(3, root, 32, root, 0, root, 0, record, sizeof record).length;
+    record[0] = (uint8_t)kind;
+    from = kind == 1 ? 1 : board;
+}
+
+/* Hands `base` a record of that kind from each of the boards. */
+static void hear(uint32_t kind, uint32_t first, uint32_t last)
+{
+    for (uint32_t board = first; board <= last; board++) {
+        make_record(kind, board);
+        tumbeliko_step(base, sizeof base, from, record, record_len, out, sizeof out, back, sizeof back);
+    }
+}
+
+static void step_line(const char *what)
+{
+    char input[60];
+
+    snprintf(input, sizeof input, "%s, 16,384 B, n %u, t %u", what, n, t);
+    line("step", input, run_step);
+}
+
+static void board_lines(void)
+{
+    char input[60];
+
+    make_record(2, n);
+    snprintf(input, sizeof input, "echo, %zu B", fragment_len);
+    line("read record", input, run_reader);
+    line("write record", input, run_writer);
+    snprintf(input, sizeof input, "n %u, t %u", n, t);
+    line("start", input, run_start);
+    snprintf(input, sizeof input, "16,384 B, n %u, t %u", n, t);
+    line("send", input, run_send);
+    tumbeliko_start(n, t, 1, LONGEST, 1, base, state_len());
+    make_record(1, 1);
+    step_line("send");
+    make_record(2, n);
+    step_line("echo");
+    make_record(3, n);
+    step_line("vote");
+    record_len = 38;
+    step_line("refused 5");
+    hear(2, 1, n - 2 * t - 1);
+    hear(3, 1, n - t);
+    make_record(2, n);
+    run_step();
+    if (kept != TUMBELIKO_DELIVERY_MESSAGE)
+        printf("nothing is delivered: the stack of another step is shown\n");
+    step_line("delivering");
 }
 
 int main(void)
@@ -222,6 +374,7 @@ int main(void)
         block_len = kept;
         snprintf(input, sizeof input, "16,384 B, n %u, t %u", n, t);
         line("read block", input, run_read);
+        board_lines();
     }
     printf("\nThe most: %zu bytes.\n", worst);
     return 0;

@@ -139,6 +139,25 @@ extern "C" {
 #define TUMBELIKO_LONG_HASH       15  /* more than 65,536 bytes to hash */
 
 /* ====================================================================
+ * Kinds of record, deliveries, places in a record
+ */
+
+/* Kinds of record. */
+#define TUMBELIKO_SEND              1
+#define TUMBELIKO_ECHO              2
+#define TUMBELIKO_VOTE              3
+
+/* Deliveries. An empty message is delivered as MESSAGE with length 0. */
+#define TUMBELIKO_DELIVERY_NONE     0
+#define TUMBELIKO_DELIVERY_MESSAGE  1
+#define TUMBELIKO_DELIVERY_VOID     2
+
+/* Where the sections of a record stand. */
+#define TUMBELIKO_RECORD_ROOT               3
+#define TUMBELIKO_RECORD_PATH               37
+#define TUMBELIKO_RECORD_FRAGMENT(nodes)    (39 + 32 * (size_t)(nodes))
+
+/* ====================================================================
  * Results, returned by value
  */
 
@@ -152,6 +171,18 @@ typedef struct {
     uint32_t number;
     uint8_t bytes[32];
 } tumbeliko_digest;
+
+/* A refusal number, or 0 and what a record is: its kind, the number of
+ * nodes of its path and the length of its fragment. */
+typedef struct {
+    uint32_t number, kind, nodes, fragment_length;
+} tumbeliko_parts;
+
+/* A refusal number, or 0 and what a step leaves: the length of the record
+ * put out (0 for none), the delivery and the length of the message. */
+typedef struct {
+    uint32_t number, record_length, delivery, message_length;
+} tumbeliko_stepped;
 
 /* ====================================================================
  * Hash
@@ -279,6 +310,138 @@ tumbeliko_sized tumbeliko_rebuild(uint32_t n, uint32_t t, uint32_t sender, uint3
 tumbeliko_sized tumbeliko_read_block(uint32_t n, uint32_t t, uint32_t sender, uint32_t longest,
                                      const uint8_t *block, size_t block_len,
                                      uint8_t *message, size_t message_len);
+
+/* ====================================================================
+ * Read record
+ *
+ * Is this a record, and where are its parts? A record is a kind byte, then
+ * three sections, each after its two-byte count (high byte first): root
+ * (count 32, then 32 bytes), path (count of nodes, then 32 bytes for each)
+ * and fragment (count of bytes, then the bytes). Nothing follows.
+ *
+ *   kind 1, send, and 2, echo: 0 to 6 nodes, fragment of 1 to 16,388 bytes
+ *   kind 3, vote: no node, no fragment; 39 bytes in all
+ *
+ *   record    record_len bytes; read
+ *
+ * Refusals: 5 (anything else).
+ * Result: number 0, kind, nodes and fragment_length. The root is at byte 3
+ * of the record, the path at 37, the fragment at 39 + 32 * nodes.
+ */
+tumbeliko_parts tumbeliko_read_record(const uint8_t *record, size_t record_len);
+
+/* ====================================================================
+ * Write record
+ *
+ * Puts a record together from its parts.
+ *
+ *   root, path, fragment    read
+ *   out                     TUMBELIKO_OUT_BYTES; written
+ *
+ * Refusals, in this order:
+ *   2    out shorter than above
+ *   5    kind not 1, 2 or 3; root_len not 32; for a send or an echo:
+ *        path_len no multiple of 32 or above 192, fragment_len 0 or above
+ *        16,388; for a vote: path or fragment not empty
+ * Result: number 0 and the length of the record.
+ *
+ * Afterwards the first `length` bytes of out are the record; bytes beyond
+ * these stay.
+ */
+tumbeliko_sized tumbeliko_write_record(uint32_t kind,
+                                       const uint8_t *root, size_t root_len,
+                                       const uint8_t *path, size_t path_len,
+                                       const uint8_t *fragment, size_t fragment_len,
+                                       uint8_t *out, size_t out_len);
+
+/* ====================================================================
+ * Start
+ *
+ * Makes a board's state for one broadcast: nothing heard, nothing put out.
+ *
+ *   own       the board's own number, 1 to n
+ *   state     TUMBELIKO_STATE_BYTES(n, s_max); written
+ *
+ * Refusals, in this order:
+ *   1    table outside its limits, or own not in 1..n
+ *   2    state shorter than above
+ * Result: 0 or the refusal number.
+ *
+ * Afterwards the first 4,608 bytes of state are those of the fresh board;
+ * bytes beyond these stay. A start over a used state is not refused. What
+ * the bytes of a state mean is the library's own: keep them untouched
+ * between steps, do not read them, and copy them only as a whole.
+ */
+uint32_t tumbeliko_start(uint32_t n, uint32_t t, uint32_t sender, uint32_t longest, uint32_t own,
+                         uint8_t *state, size_t state_len);
+
+/* ====================================================================
+ * Step
+ *
+ * Hands one record from board `from` to the board whose state is lent.
+ * That the record really comes from that board is for the caller to know.
+ *
+ *   state       TUMBELIKO_STATE_BYTES(n, s_max); read and written
+ *   record      record_len bytes; read
+ *   out         TUMBELIKO_OUT_BYTES; written if a record is put out
+ *   delivery    longest bytes; written if a message is delivered
+ *
+ * n, s_max and longest are those of the state's start. out and delivery
+ * are needed in every step, also in one that puts out or delivers nothing.
+ *
+ * Refusals, in this order:
+ *   2    state below 4,608 bytes
+ *   3    state not sound (never after a start and steps alone)
+ *   2    state, out or delivery shorter than above
+ *   4    from not in 1..n
+ *   5    record not of the form (see tumbeliko_read_record)
+ *   6    a send, and from is not the sender
+ *   7    a send or an echo whose fragment is longer than s_max
+ *   8    board done; or a send in the output stage
+ *   9    second send; second echo or second vote from that board
+ * A refused record is not used up: the state is as it was.
+ *
+ * Result: number 0, and
+ *   record_length    length of the record put out, 0 for none; at most one
+ *                    in a step, meant for all n boards, this one too
+ *   delivery         0 none, 1 message, 2 void (the sender broke the
+ *                    rules: nothing can be delivered, and nothing will be)
+ *   message_length   of the message delivered; 0 with none and void
+ *
+ * Afterwards state is the board's new state, the first record_length bytes
+ * of out are the record, and the first message_length bytes of delivery
+ * are the message; bytes of out and delivery beyond these stay. A board
+ * delivers once; it is done then, and refuses every later record.
+ */
+tumbeliko_stepped tumbeliko_step(uint8_t *state, size_t state_len, uint32_t from,
+                                 const uint8_t *record, size_t record_len,
+                                 uint8_t *out, size_t out_len,
+                                 uint8_t *delivery, size_t delivery_len);
+
+/* ====================================================================
+ * Send
+ *
+ * The sender's record for board `to`: works everything out afresh from
+ * table and message, for that one board. A sender that wants all n records
+ * at less cost calls tumbeliko_encode once and tumbeliko_write_record n
+ * times.
+ *
+ *   message   0 to longest bytes; read
+ *   out       TUMBELIKO_OUT_BYTES; written
+ *
+ * Refusals, in this order:
+ *   1    table outside its limits
+ *   2    out shorter than above
+ *   4    to not in 1..n
+ *   13   message_len above longest
+ * Result: number 0 and the length of the record.
+ *
+ * Afterwards the first `length` bytes of out are the record; bytes beyond
+ * these stay.
+ */
+tumbeliko_sized tumbeliko_send(uint32_t n, uint32_t t, uint32_t sender, uint32_t longest,
+                               const uint8_t *message, size_t message_len, uint32_t to,
+                               uint8_t *out, size_t out_len);
 
 #ifdef __cplusplus
 }

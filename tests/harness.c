@@ -57,6 +57,13 @@ void random_bytes(uint8_t *bytes, size_t len)
     }
 }
 
+void flip_a_bit(uint8_t *bytes, size_t len)
+{
+    uint32_t bit = random_below((uint32_t)(8 * len));
+
+    bytes[bit / 8] ^= (uint8_t)(1 << bit % 8);
+}
+
 /* ---- rooms: [inaccessible page] [bytes] [inaccessible page] */
 
 #define ROOMS   8

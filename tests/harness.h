@@ -18,6 +18,7 @@ void check_that(bool fact, const char *text, const char *file, int line);
 uint64_t random_bits(void);
 uint32_t random_below(uint32_t limit);
 void random_bytes(uint8_t *bytes, size_t len);
+void flip_a_bit(uint8_t *bytes, size_t len);
 
 /* The most bytes that lend() takes. */
 #define ROOM 70000

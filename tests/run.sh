@@ -44,6 +44,8 @@ part header make --no-print-directory header-test
 part reference make --no-print-directory reference-test
 part vectors make --no-print-directory vectors-test
 part ground make --no-print-directory ground-test
+part board make --no-print-directory board-test
+part line make --no-print-directory line-test
 
 echo "$passed passed, $failed failed"
 [ "$failed" -eq 0 ]

@@ -221,13 +221,14 @@ void ref_decode(const uint8_t *state, size_t state_len, ref_board *b)
         memcpy(b->echo_root[i], state + 256 + 32 * i, 32);
         memcpy(b->vote_root[i], state + 2304 + 32 * i, 32);
     }
-    memset(b->fragment, 0, sizeof b->fragment);
     if (!ref_table_within_limits(b->table))
         return;
     s_max = ref_s_max(b->table);
     for (size_t i = 0; i < b->table.n; i++)
         if (REF_STATE_HEAD + (i + 1) * s_max <= state_len)
             memcpy(b->fragment[i], state + REF_STATE_HEAD + i * s_max, s_max);
+        else
+            memset(b->fragment[i], 0, s_max);
 }
 
 static size_t state_bytes(ref_table table)

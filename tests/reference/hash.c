@@ -187,14 +187,24 @@ static void grow(const uint8_t leaf[][32], size_t count, uint8_t root[32], uint8
     node_hash(left, right, root);
 }
 
-void ref_tree(const uint8_t *fragments, size_t stride, size_t length, size_t count,
-              uint8_t root[32], uint8_t *paths, size_t *nodes)
+void ref_uneven_tree(const uint8_t *fragments, size_t stride, const uint32_t *lengths, size_t count,
+                     uint8_t root[32], uint8_t *paths, size_t *nodes)
 {
     uint8_t leaf[REF_BOARDS][32];
 
     for (size_t i = 0; i < count; i++)
-        leaf_hash(fragments + i * stride, length, leaf[i]);
+        leaf_hash(fragments + i * stride, lengths[i], leaf[i]);
     grow((const uint8_t (*)[32])leaf, count, root, paths, nodes);
+}
+
+void ref_tree(const uint8_t *fragments, size_t stride, size_t length, size_t count,
+              uint8_t root[32], uint8_t *paths, size_t *nodes)
+{
+    uint32_t lengths[REF_BOARDS];
+
+    for (size_t i = 0; i < count; i++)
+        lengths[i] = (uint32_t)length;
+    ref_uneven_tree(fragments, stride, lengths, count, root, paths, nodes);
 }
 
 /* Climbs from the leaf at `at` to the root of `count` leaves. The last of

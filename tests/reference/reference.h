@@ -46,6 +46,10 @@ bool ref_path_correct(uint32_t n, uint32_t board, const uint8_t *root, size_t ro
 void ref_tree(const uint8_t *fragments, size_t stride, size_t length, size_t count,
               uint8_t root[32], uint8_t *paths, size_t *nodes);
 
+/* The same over fragments of unequal lengths. */
+void ref_uneven_tree(const uint8_t *fragments, size_t stride, const uint32_t *lengths, size_t count,
+                     uint8_t root[32], uint8_t *paths, size_t *nodes);
+
 /* code.c: field, fragments, blocks */
 
 uint8_t ref_mul(uint8_t a, uint8_t b);
@@ -93,7 +97,8 @@ ref_stepped ref_step(ref_board *board, size_t state_len, uint32_t from, const ui
 bool ref_sound(const ref_board *board);
 
 /* The board that the library's state bytes stand for. Every 4,608 bytes are
- * some board, sound or not; fragments are read as far as state_len goes. */
+ * some board, sound or not. With a table within limits, s_max bytes of each
+ * fragment are read as far as state_len goes; those beyond are 0. */
 void ref_decode(const uint8_t *state, size_t state_len, ref_board *board);
 
 #endif

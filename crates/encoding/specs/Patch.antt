@@ -26,3 +26,9 @@ pub record Patch (n s lo hi : ℕ) (f : ℕ → ℕ → ℕ) (old new : List ℕ
 -- byte d of room i times i + 1 (or times 0, where go is 0), with byte d - c of the column added
 abbrev pub turned : ℕ → ℕ → List ℕ → ℕ → List ℕ → ℕ → ℕ → ℕ
 turned go s column c old i d = add (getD column (d - c) 0) (mul (suc i * go) (getD old (i * s + d) 0))
+
+-- byte d of old from a place on, d below n, is f d, and nothing else is written
+pub record Filled (from n : ℕ) (f : ℕ → ℕ) (old new : List ℕ) : Type 0 where
+  pub each : (d : ℕ) → d < n → getD new (from + d) 0 ≡ f d
+  pub before : (p : ℕ) → p < from → getD new p 0 ≡ getD old p 0
+  pub after : (p : ℕ) → from + n ≤ p → getD new p 0 ≡ getD old p 0

@@ -7,10 +7,10 @@ ghost use mathlib.Core.List.{_++_};
 ghost use Prim.Native.Nat.{ℕ, suc, _+_, _-_, _*_, _<_, _≤_};
 ghost use lib.ListN.{length, getD};
 ghost use Rattle.field.specs.Field.{add, mul};
-ghost use Rattle.octets.specs.Bytes.{placeEach};
+ghost use Rattle.octets.specs.Bytes.{put, placeEach};
 ghost use Rattle.code.specs.Code.{fragmentByte, fragmentOf};
 ghost use Rattle.code.specs.Block.{header, rows, block};
-ghost use Rattle.encoding.specs.Patch.{Folded, Patch, turned};
+ghost use Rattle.encoding.specs.Patch.{Folded, Patch, turned, Filled};
 
 // c + x y
 fn fold(c: u8, x: u8, y: u8) -> u8
@@ -137,4 +137,54 @@ pub fn put_fragments(message: &[u8], n: usize, k: usize, s: usize, area: &mut [u
 {
     let mut column = [0u8; 64];
     encode(message, n, k, s, area, &mut column);
+}
+
+// n bytes of the area from a place on: bytes c to c + n of the fragment of board i + 1, from the highest coefficients down. coefficients is room to work in.
+fn fragment_rows(
+    message: &[u8],
+    k: usize,
+    i: usize,
+    c: usize,
+    n: usize,
+    area: &mut [u8],
+    from: usize,
+    coefficients: &mut [u8],
+)
+    requires { ⌜ (length (now message) ≤ 16384) × (0 < k) × (k ≤ 64) × (i < 64) × (from + n ≤ length (now area)) × (c + n ≤ 16388)
+        × (c + n ≤ rows k (length (now message))) × (n ≤ length (now coefficients)) × (0 < n) ⌝ }
+    ensures { λ r. ⌜ Filled from n (λ d. fragmentByte k (block k (now (message .entry))) (suc i) (c + d)) (now (area .entry)) (now (area .exit)) ⌝ }
+{
+    let mut go: u8 = 0;
+    let mut m = k;
+    while 0 < m {
+        m -= 1;
+        gather(message, k, m, c, n, coefficients);
+        fold_in(area, from, n, (i + 1) as u8 * go, coefficients);
+        go = 1;
+    }
+}
+
+// The fragment of board i + 1, in the area from `at` on. column is room to work in.
+fn fragment_in(message: &[u8], k: usize, i: usize, area: &mut [u8], at: usize, column: &mut [u8])
+    requires { ⌜ (length (now message) ≤ 16384) × (0 < k) × (k ≤ 64) × (i < 64) × (rows k (length (now message)) ≤ 16388)
+        × (at + rows k (length (now message)) ≤ length (now area)) × (0 < length (now column)) ⌝ }
+    ensures { λ r. ⌜ Filled at (rows k (length (now (message .entry)))) (λ d. fragmentByte k (block k (now (message .entry))) (suc i) d) (now (area .entry)) (now (area .exit)) ⌝ }
+{
+    let count = row_count(message.len(), k);
+    let mut c = 0;
+    while c < count {
+        let n = least(count - c, column.len());
+        fragment_rows(message, k, i, c, n, area, at + c, column);
+        c += n;
+    }
+}
+
+// The fragment of board i + 1 alone, in the area from `at` on.
+pub fn put_fragment(message: &[u8], k: usize, i: usize, area: &mut [u8], at: usize)
+    requires { ⌜ (length (now message) ≤ 16384) × (0 < k) × (k ≤ 64) × (i < 64) × (rows k (length (now message)) ≤ 16388)
+        × (at + rows k (length (now message)) ≤ length (now area)) ⌝ }
+    ensures { λ _. ⌜ now (area .exit) ≡ put at (fragmentOf k (block k (now (message .entry))) (suc i)) (now (area .entry)) ⌝ }
+{
+    let mut column = [0u8; 64];
+    fragment_in(message, k, i, area, at, &mut column);
 }

@@ -2,14 +2,14 @@
 -- of its n fragments: rebuilding gives its block, and reading gives the message.
 -- Assumes nothing.
 use mathlib.Core.Path.{_≡_, refl, sym, ap, _∙_, subst}
-use mathlib.Core.Bool.{Bool, true, false, not, _&&_, _||_}
+use mathlib.Core.Bool.{Bool, true, false, not, _&&_}
 use mathlib.Core.List.{List}
 use Prim.Native.Nat.{ℕ, zero, suc, _+_, _*_, _/_, _^_, _<_, _≤_}
 use native.Mathlib.Nat as N
 use native.Mathlib.Omega.{arith}
 use borrow.Author.Tests.{le-ltb, eq-eqb, le-leb}
 use lib.Count.{ones}
-use lib.Dec.{eqb, leb, ltb}
+use lib.Dec.{leb}
 use lib.ListN.{length}
 use Rattle.octets.specs.Bytes.{pick, put, placeEach}
 use Rattle.octets.specs.Sets.{has, some}
@@ -18,7 +18,7 @@ use Rattle.boards.specs.Table.{limits, kOf, sMax}
 use Rattle.boards.specs.declared.Table.{Table}
 use Rattle.boards.proofs.Within.{within, k-pos}
 use Rattle.code.specs.Code.{All, Byte}
-use Rattle.code.specs.Block.{rows, block, readable, messageIn}
+use Rattle.code.specs.Block.{rows, block}
 use Rattle.code.proofs.Blocks.{enough}
 use Rattle.code.proofs.Reading.{block-readable, block-message}
 use Rattle.encoding.specs.Message.{fragmentFor}

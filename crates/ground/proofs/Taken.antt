@@ -11,7 +11,7 @@ use borrow.Author.Tests.{leb-true, ltb-false, eqb-true}
 use lib.Count.{ones}
 use lib.Dec.{eqb, leb, ltb}
 use lib.ListN.{length}
-use Rattle.octets.specs.Bytes.{pick, part, put, placeEach, fourAt}
+use Rattle.octets.specs.Bytes.{part, put, placeEach, fourAt}
 use Rattle.octets.specs.Sets.{has}
 use Rattle.octets.proofs.Picks.{none-applies, not-none, or-none-l, or-none-r}
 use Rattle.boards.specs.Table.{limits, kOf, sMax}

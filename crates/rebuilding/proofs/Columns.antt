@@ -129,7 +129,7 @@ weights-next xs m ds old new i l h w a j b =
     joined d x t v = ap (add (mul d t)) (L.mul-left-comm x d v) ∙ sym (L.mul-add d t (mul x v))
 
 module _ (area : List ℕ) (s : ℕ) (xs m ds : List ℕ) (count : ℕ) (old : List ℕ) where
-  by-weights : (ws : List ℕ) (q c : ℕ) → Weights xs m ds (suc q) ws → weighed area s xs ws c (length xs) ≡ coefficient area s xs m ds c q
+  pub by-weights : (ws : List ℕ) (q c : ℕ) → Weights xs m ds (suc q) ws → weighed area s xs ws c (length xs) ≡ coefficient area s xs m ds c q
   unfolding weighed coefficient
   by-weights ws q c w =
       total-same (λ j. mul (getD ws j 0) (cell area s c (getD xs j 0)))

@@ -31,11 +31,11 @@ Good area s ps m ds xs count i =
 
 module _ (area : List ℕ) (s : ℕ) (ps m ds : List ℕ) (M : Master ps m) (apart : Apart ps) (small : (i : ℕ) → getD ps i 0 < 256)
     (bytes-m : (i : ℕ) → getD m i 0 < 256) (S : Scales ps m ds) (bytes-a : (i : ℕ) → getD area i 0 < 256) where
-  size : (c : ℕ) → length (line area s ps m ds c) ≡ length ps
+  pub size : (c : ℕ) → length (line area s ps m ds c) ≡ length ps
   unfolding line
   size c = length-tab (length ps) (coefficient area s ps m ds c)
 
-  sums : (c i : ℕ) → i < length ps → getD (line area s ps m ds c) i 0
+  pub sums : (c i : ℕ) → i < length ps → getD (line area s ps m ds c) i 0
       ≡ total (λ j. mul (mul (getD ds j 0) (value (drop (suc i) m) (getD ps j 0))) (cell area s c (getD ps j 0))) (length ps)
   unfolding line coefficient
   sums c i h = getD-tab (length ps) (coefficient area s ps m ds c) i h
@@ -44,10 +44,10 @@ module _ (area : List ℕ) (s : ℕ) (ps m ds : List ℕ) (M : Master ps m) (apa
   unfolding cell
   byte c j = bytes-a _
 
-  at-points : (c i : ℕ) → i < length ps → value (line area s ps m ds c) (getD ps i 0) ≡ cell area s c (getD ps i 0)
+  pub at-points : (c i : ℕ) → i < length ps → value (line area s ps m ds c) (getD ps i 0) ≡ cell area s c (getD ps i 0)
   at-points c = takes ps m M apart small bytes-m ds S (λ j. cell area s c (getD ps j 0)) (byte c) (line area s ps m ds c) (size c) (sums c)
 
-  at-other : (z : ℕ) (ws : List ℕ) (c : ℕ) → Values ps m ds z ws → value (line area s ps m ds c) z ≡ weighed area s ps ws c (length ps)
+  pub at-other : (z : ℕ) (ws : List ℕ) (c : ℕ) → Values ps m ds z ws → value (line area s ps m ds c) z ≡ weighed area s ps ws c (length ps)
   unfolding weighed
   at-other z ws c v =
       values ps m M apart small bytes-m ds S (λ j. cell area s c (getD ps j 0)) (byte c) (line area s ps m ds c) (size c) (sums c) z
@@ -59,7 +59,7 @@ module _ (area : List ℕ) (s : ℕ) (ps m ds : List ℕ) (M : Master ps m) (apa
       swap : (d y q : ℕ) → mul (mul d y) q ≡ mul (mul d q) y
       swap d y q = L.mul-assoc d y q ∙ ap (mul d) (L.mul-comm y q) ∙ sym (L.mul-assoc d q y)
 
-  bytes-line : (c : ℕ) → All Byte (line area s ps m ds c)
+  pub bytes-line : (c : ℕ) → All Byte (line area s ps m ds c)
   unfolding line
   bytes-line c = all-of Byte (line area s ps m ds c)
       (λ i b. subst (λ (v : ℕ). v < 256) (sym (getD-tab (length ps) (coefficient area s ps m ds c) i (omega (arith, size c)))) (coefficient-lt area s ps m ds 0 [] c i))

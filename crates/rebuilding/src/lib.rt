@@ -47,7 +47,7 @@ fn attach(x: u8, row: &mut [u8], j: usize)
 }
 
 // From 0, .. 0, 1, the coefficients of the product of all X - x, x a point.
-fn master(points: &[u8], row: &mut [u8])
+pub fn master(points: &[u8], row: &mut [u8])
     requires { ⌜ (length (now row) ≡ suc (length (now points))) × ((i : ℕ) → i < length (now points) → getD (now row) i 0 ≡ 0)
         × (getD (now row) (length (now points)) 0 ≡ 1) ⌝ }
     ensures { λ r. ⌜ Master (now (points .entry)) (now (row .exit)) ⌝ }
@@ -76,7 +76,7 @@ fn slope_at(m: &[u8], x: u8, z: u8) -> u8
 }
 
 // The factors that make the quotients 1 at their own points.
-fn scales(points: &[u8], m: &[u8], ds: &mut [u8])
+pub fn scales(points: &[u8], m: &[u8], ds: &mut [u8])
     requires { ⌜ Master (now points) (now m) × Apart (now points) × (length (now ds) ≡ length (now points)) ⌝ }
     ensures { λ r. ⌜ Scales (now (points .entry)) (now (m .entry)) (now (ds .exit)) ⌝ }
 {
@@ -89,7 +89,7 @@ fn scales(points: &[u8], m: &[u8], ds: &mut [u8])
 }
 
 // The weights of the next lower coefficient.
-fn advance(points: &[u8], ds: &[u8], top: u8, ws: &mut [u8])
+pub fn advance(points: &[u8], ds: &[u8], top: u8, ws: &mut [u8])
     requires { ⌜ (length (now ds) ≡ length (now points)) × (length (now ws) ≡ length (now points)) ⌝ }
     ensures { λ r. ⌜ ((j : ℕ) → j < length (now (points .entry)) → getD (now (ws .exit)) j 0
         ≡ add (mul (getD (now (ds .entry)) j 0) top) (mul (getD (now (points .entry)) j 0) (getD (now (ws .entry)) j 0))) ⌝ }
@@ -98,6 +98,32 @@ fn advance(points: &[u8], ds: &[u8], top: u8, ws: &mut [u8])
     while j < points.len() {
         ws[j] = fold(product(ds[j], top), points[j], ws[j]);
         j += 1;
+    }
+}
+
+// m has the coefficients of the product of all X - x, x a point, and ds its scales.
+pub fn prepare(points: &[u8], m: &mut [u8], ds: &mut [u8])
+    requires { ⌜ Apart (now points) × (length (now m) ≡ suc (length (now points))) × (length (now ds) ≡ length (now points)) ⌝ }
+    ensures { λ r. ⌜ Master (now (points .entry)) (now (m .exit)) × Scales (now (points .entry)) (now (m .exit)) (now (ds .exit)) ⌝ }
+{
+    let k = points.len();
+    clear_at(m, 0, k);
+    m[k] = 1;
+    master(points, m);
+    scales(points, m, ds);
+}
+
+// The weights with which the bytes at the points add up to coefficient q.
+pub fn weights_for(points: &[u8], m: &[u8], ds: &[u8], q: usize, ws: &mut [u8])
+    requires { ⌜ (length (now m) ≡ suc (length (now points))) × (length (now ds) ≡ length (now points)) × (length (now ws) ≡ length (now points))
+        × (q < length (now points)) ⌝ }
+    ensures { λ r. ⌜ Weights (now (points .entry)) (now (m .entry)) (now (ds .entry)) (suc q) (now (ws .exit)) ⌝ }
+{
+    let mut i = points.len();
+    clear_at(ws, 0, i);
+    while q < i {
+        advance(points, ds, m[i], ws);
+        i -= 1;
     }
 }
 
@@ -110,7 +136,7 @@ fn place(x: u8, s: usize, c: usize) -> usize
 }
 
 // Bytes c, c + 1, .. of the fragments at the points, n of them, each times its weight, added up.
-fn combine(area: &[u8], s: usize, points: &[u8], ws: &[u8], c: usize, n: usize, sum: &mut [u8])
+pub fn combine(area: &[u8], s: usize, points: &[u8], ws: &[u8], c: usize, n: usize, sum: &mut [u8])
     requires { ⌜ Boards (length (now area)) s (now points) × (s ≤ 16388) × (c + n ≤ s) × (length (now ws) ≡ length (now points)) × (n ≤ length (now sum)) ⌝ }
     ensures { λ r. ⌜ ((i : ℕ) → i < n → getD (now (sum .exit)) i 0 ≡ weighed (now (area .entry)) s (now (points .entry)) (now (ws .entry)) (c + i) (length (now (points .entry)))) ⌝ }
 {
@@ -194,7 +220,7 @@ fn write_columns(
 }
 
 // The weights with which the bytes at the points add up to the value at z.
-fn weights_at(points: &[u8], m: &[u8], ds: &[u8], z: u8, ws: &mut [u8])
+pub fn weights_at(points: &[u8], m: &[u8], ds: &[u8], z: u8, ws: &mut [u8])
     requires { ⌜ (0 < length (now m)) × (length (now ds) ≡ length (now points)) × (length (now ws) ≡ length (now points)) ⌝ }
     ensures { λ r. ⌜ Values (now (points .entry)) (now (m .entry)) (now (ds .entry)) z (now (ws .exit)) ⌝ }
 {
@@ -284,10 +310,7 @@ fn rebuild_in(
     ensures { λ r. ⌜ Remade (now (area .entry)) s (now (points .entry)) (now (marked .entry)) count (now (out .entry)) (now (out .exit)) r ⌝ }
 {
     let k = points.len();
-    clear_at(m, 0, k);
-    m[k] = 1;
-    master(points, m);
-    scales(points, m, ds);
+    prepare(points, m, ds);
     if others_agree(area, s, points, marked, m, ds, count, ws, sum) {
         clear_at(ws, 0, k);
         write_columns(area, s, points, m, ds, count, out, ws, sum);
@@ -329,7 +352,7 @@ fn rebuild_listed(
 }
 
 // The boards of a set, of n in all, in ascending order; how many there are.
-fn members(set: u64, n: usize, out: &mut [u8]) -> usize
+pub fn members(set: u64, n: usize, out: &mut [u8]) -> usize
     requires { ⌜ (n ≤ 64) × (n ≤ length (now out)) ⌝ }
     ensures { λ r. ⌜ (r ≤ n) × (take r (now (out .exit)) ≡ marks 1 n set) ⌝ }
 {

@@ -5,7 +5,7 @@ ghost use mathlib.Core.List.{List, _++_};
 ghost use lib.ListN.{length, getD};
 ghost use Rattle.octets.specs.Bytes.{part};
 ghost use Rattle.sha256.specs.Words.{rotr, ch, maj, Σ₀, Σ₁, σ₀, σ₁};
-ghost use Rattle.sha256.specs.Tables.{K};
+ghost use Rattle.sha256.specs.Tables.{K, H0};
 ghost use Rattle.sha256.specs.Sha256.{T₁, T₂, expand, round, sums, word, next, words, rounds, compress, byteOf, pad, block, chain, digest, sha256};
 use std::num::wrapping_add_u32;
 
@@ -287,7 +287,7 @@ fn added(x: [u32; 8], y: [u32; 8]) -> [u32; 8]
 }
 
 // The chaining words after one more block.
-fn compressed(h: [u32; 8], b: &[u8]) -> [u32; 8]
+pub fn compressed(h: [u32; 8], b: &[u8]) -> [u32; 8]
     requires { ⌜ length (now b) ≡ 64 ⌝ }
     ensures { λ r. ⌜ r ≡ compress h (now (b .entry)) ⌝ }
 {
@@ -302,6 +302,21 @@ fn length_byte(x: u64, j: usize) -> u8
     ensures { λ r. ⌜ r ≡ byteOf 8 x j ⌝ }
 {
     ((x >> (8 * (7 - j))) % 256) as u8
+}
+
+// Byte i of a padded message of n bytes, past the message.
+pub fn pad_byte(n: usize, i: usize) -> u8
+    requires { ⌜ (n ≤ 65536) × (n ≤ i) × (i < (n + 8) / 64 * 64 + 64) ⌝ }
+    ensures { λ r. ⌜ ((m : List ℕ) → length m ≡ n → r ≡ getD (pad m) i 0) ⌝ }
+{
+    if i == n {
+        return 128;
+    }
+    let tail = (n + 8) / 64 * 64 + 56;
+    if i < tail {
+        return 0;
+    }
+    length_byte((8 * n) as u64, i - tail)
 }
 
 // Byte j of a word, high byte first.
@@ -325,14 +340,7 @@ fn padded(head: &[u8], body: &[u8], i: usize) -> u8
     if i < n {
         return body[i - h];
     }
-    if i == n {
-        return 128;
-    }
-    let tail = (n + 8) / 64 * 64 + 56;
-    if i < tail {
-        return 0;
-    }
-    length_byte((8 * n) as u64, i - tail)
+    pad_byte(n, i)
 }
 
 // Block k of the padded message.
@@ -348,6 +356,13 @@ fn block_at(head: &[u8], body: &[u8], k: usize) -> [u8; 64]
         j += 1;
     }
     b
+}
+
+// The chaining words before the first block.
+pub fn begun() -> [u32; 8]
+    ensures { λ r. ⌜ r ≡ H0 ⌝ }
+{
+    H0
 }
 
 // The chaining words after block k.
@@ -372,7 +387,7 @@ fn chained(head: &[u8], body: &[u8]) -> [u32; 8]
     ensures { λ r. ⌜ r ≡ chain (length (pad (now (head .entry) ++ now (body .entry))) / 64) (pad (now (head .entry) ++ now (body .entry))) ⌝ }
 {
     let count = (head.len() + body.len() + 72) / 64;
-    let mut h = H0;
+    let mut h = begun();
     let mut k: usize = 0;
     while k < count {
         let next = absorbed(h, head, body, k);
@@ -383,7 +398,7 @@ fn chained(head: &[u8], body: &[u8]) -> [u32; 8]
 }
 
 // The chaining words as bytes.
-fn written(h: [u32; 8]) -> [u8; 32]
+pub fn written(h: [u32; 8]) -> [u8; 32]
     ensures { λ r. ⌜ r ≡ digest h ⌝ }
 {
     let mut out = [0u8; 32];

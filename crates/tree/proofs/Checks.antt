@@ -88,7 +88,7 @@ path-short n fs i h lt = omega (arith, length-path sha256 fs (treeOf n) i, depth
 -- ---- the two theorems
 
 module _ (n i : ℕ) (fs : ℕ → List ℕ) where
-  own-climb : n ≤ 64 → i < n → climb sha256 (nodeOf (flat (pathOf n fs i))) (treeOf n) i (fs i) ≡ rootOf n fs
+  pub own-climb : n ≤ 64 → i < n → climb sha256 (nodeOf (flat (pathOf n fs i))) (treeOf n) i (fs i) ≡ rootOf n fs
   unfolding rootOf pathOf
   own-climb h lt =
       climb-same sha256 fs (nodeOf (flat (path sha256 fs (treeOf n) i))) (λ j. getD (path sha256 fs (treeOf n) i) j []) (treeOf n) i (fs i)

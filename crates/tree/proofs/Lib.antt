@@ -9,3 +9,4 @@ pub mod Leaves
 pub mod Checks
 pub mod Rising
 pub mod Paths
+pub mod Runs

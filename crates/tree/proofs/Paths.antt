@@ -35,7 +35,7 @@ module _ (n : ℕ) (fs : ℕ → List ℕ) where
   unfolding besides pick
   besides-right d i ge = rw (le-ltb i (middle d i) ge)
 
-  besides-size : (d i : ℕ) → length (besides d i) ≡ 32
+  pub besides-size : (d i : ℕ) → length (besides d i) ≡ 32
   besides-size d i =
       ⊎-elim (λ lt. rw (besides-left d i lt) (root-size sha256 sha256-length fs (span n d (middle d i))))
       (λ ge. rw (besides-right d i ge) (root-size sha256 sha256-length fs (span n d (start (d + 1) i))))
@@ -57,11 +57,11 @@ module _ (n : ℕ) (fs : ℕ → List ℕ) where
   unfolding pathTo
   pathTo-alone d i lt h = ap flat (path-alone n d i sha256 fs lt h)
 
-  pathTo-none : (i : ℕ) → pathTo n fs 0 i ≡ []
+  pub pathTo-none : (i : ℕ) → pathTo n fs 0 i ≡ []
   unfolding pathTo path flat pick
   pathTo-none i = ap (λ (t : Tree). flat (path sha256 fs t i)) (around-none n i)
 
-  pathTo-all : (i : ℕ) → n ≤ 64 → i < n → pathTo n fs 6 i ≡ flat (pathOf n fs i)
+  pub pathTo-all : (i : ℕ) → n ≤ 64 → i < n → pathTo n fs 6 i ≡ flat (pathOf n fs i)
   unfolding pathTo pathOf
   pathTo-all i h lt = ap (λ (t : Tree). flat (path sha256 fs t i)) (around-all n i h lt)
 

@@ -24,6 +24,10 @@ middle d i = start (d + 1) i + 2 ^ d
 unfoldable pub around : ℕ → ℕ → ℕ → Tree
 around n d i = span n d (start d i)
 
+-- the first leaf of the tree beside leaf i at level d
+unfoldable pub beside : ℕ → ℕ → ℕ
+beside d i = pick (ltb i (middle d i)) (middle d i) (start (d + 1) i)
+
 -- ---- a root from leaves that come one after the other
 
 -- before leaf i: for each level at which leaf i is on the right, the hash of what is on the left waits in that level's 32 bytes of w

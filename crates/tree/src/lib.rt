@@ -9,7 +9,7 @@ ghost use Rattle.octets.specs.Bytes.{part, put, pick, placeEach};
 ghost use Rattle.sha256.specs.Sha256.{sha256};
 ghost use Rattle.tree.specs.Tree.{leafHash, nodeHash, root, climb, flat, treeOf, depth, rootOf, pathOf};
 ghost use Rattle.tree.specs.Check.{nodeOf, pathCorrect};
-ghost use Rattle.tree.specs.Levels.{span, start, middle, around, Waiting, Raised, pathsTo};
+ghost use Rattle.tree.specs.Levels.{span, start, middle, around, beside, Waiting, Raised, pathsTo};
 ghost use Rattle.tree.specs.Area.{fragmentAt, Rooms};
 
 // The hash of a leaf.
@@ -69,7 +69,7 @@ fn first_of(i: usize, d: usize) -> usize
 }
 
 // The first leaf of the right half of the tree d + 1 levels high that leaf i is in.
-fn middle_of(i: usize, d: usize) -> usize
+pub fn middle_of(i: usize, d: usize) -> usize
     requires { ⌜ (i < 64) × (d < 6) ⌝ }
     ensures { λ r. ⌜ (r ≡ middle d i) × (r ≤ 128) ⌝ }
 {
@@ -77,7 +77,7 @@ fn middle_of(i: usize, d: usize) -> usize
 }
 
 // How many nodes the path of leaf i of n has as far as level d.
-fn nodes(n: usize, i: usize, d: usize) -> usize
+pub fn nodes(n: usize, i: usize, d: usize) -> usize
     requires { ⌜ (n ≤ 64) × (i < n) × (d ≤ 6) ⌝ }
     ensures { λ r. ⌜ (r ≡ depth (around n d i) i) × (r ≤ d) ⌝ }
 {
@@ -108,7 +108,7 @@ fn lifted(path: &[u8], n: usize, i: usize, x: [u8; 32], j: usize, d: usize) -> [
 }
 
 // The hash h of leaf i of n, taken up beside the nodes of the path.
-fn taken_up(path: &[u8], n: usize, i: usize, h: [u8; 32]) -> [u8; 32]
+pub fn taken_up(path: &[u8], n: usize, i: usize, h: [u8; 32]) -> [u8; 32]
     requires { ⌜ (n ≤ 64) × (i < n) × (length (now path) ≡ 32 * depth (treeOf n) i) ⌝ }
     ensures { λ r. ⌜ ((f : List ℕ) → h ≡ leafHash sha256 f → r ≡ climb sha256 (nodeOf (now (path .entry))) (treeOf n) i f) ⌝ }
 {
@@ -194,14 +194,21 @@ pub fn raised(waiting: &mut [u8], x: [u8; 32], i: usize, n: usize) -> [u8; 32]
     y
 }
 
+// The hash of the leaf that stands in a buffer: len bytes from a place on.
+pub fn leaf_part(buffer: &[u8], from: usize, len: usize) -> [u8; 32]
+    requires { ⌜ (len ≤ 65535) × (from + len ≤ length (now buffer)) ⌝ }
+    ensures { λ r. ⌜ r ≡ leafHash sha256 (part from len (now (buffer .entry))) ⌝ }
+{
+    let to = from + len;
+    leaf(&buffer[from..to])
+}
+
 // The hash of fragment i of an area: len bytes at every s bytes.
 fn leaf_at(area: &[u8], s: usize, len: usize, i: usize) -> [u8; 32]
     requires { ⌜ (len ≤ 65535) × (i * s + len ≤ length (now area)) ⌝ }
     ensures { λ r. ⌜ r ≡ leafHash sha256 (fragmentAt s len (now (area .entry)) i) ⌝ }
 {
-    let from = i * s;
-    let to = from + len;
-    leaf(&area[from..to])
+    leaf_part(area, i * s, len)
 }
 
 // The height at which the tree d levels high from leaf a on forks: 0 for a leaf.
@@ -262,7 +269,7 @@ fn extended(paths: &mut [u8], n: usize, d: usize, i: usize, l: &[u8], r: &[u8])
 }
 
 // The smaller one.
-fn least(x: usize, y: usize) -> usize
+pub fn least(x: usize, y: usize) -> usize
     ensures { λ r. ⌜ r ≡ min x y ⌝ }
 {
     if x < y { x } else { y }
@@ -308,4 +315,24 @@ pub fn write_tree(area: &[u8], s: usize, len: usize, n: usize, root: &mut [u8], 
     }
     let x = node_at(area, s, len, n, 6, 0, paths);
     octets::copy_at(root, 0, &x);
+}
+
+// The first leaf of the tree beside leaf i at level d.
+pub fn beside_of(i: usize, d: usize) -> usize
+    requires { ⌜ (i < 64) × (d < 6) ⌝ }
+    ensures { λ r. ⌜ r ≡ beside d i ⌝ }
+{
+    let m = middle_of(i, d);
+    if i < m {
+        return m;
+    }
+    first_of(i, d + 1)
+}
+
+// How many leaves the tree d levels high from leaf a on has.
+pub fn leaf_count(n: usize, d: usize, a: usize) -> usize
+    requires { ⌜ (n ≤ 64) × (a < n) × (d ≤ 6) ⌝ }
+    ensures { λ r. ⌜ (r ≡ min n (a + 2 ^ d) - a) × (0 < r) × (a + r ≤ n) ⌝ }
+{
+    least(n, a + width(d)) - a
 }

@@ -1,14 +1,14 @@
 -- Document 01, "Checked by hand": the examples marked P, about the written definitions, in one table.
 -- Assumes nothing.
 use mathlib.Core.Path.{_≡_, refl}
-use mathlib.Core.Bool.{true, false, not}
+use mathlib.Core.Bool.{true, false}
 use mathlib.Core.List.{List, [], _∷_}
 use Prim.Native.Nat.{ℕ, zero, suc, _*_, _<_, _≤_}
 use native.Mathlib.Omega.{arith}
 use lib.Count.{ones, onesIn}
-use Rattle.octets.specs.Bytes.{pick, part, put, tab, fourAt}
+use Rattle.octets.specs.Bytes.{pick, part, tab, fourAt}
 use Rattle.octets.specs.Sets.{has}
-use Rattle.boards.specs.Table.{limits, kOf, sMax, mostOf, someOf}
+use Rattle.boards.specs.Table.{limits, kOf, mostOf, someOf}
 use Rattle.tree.specs.Tree.{doubled, half, tree, treeOf, depth}
 use Rattle.field.specs.Field.{add, double, times, mul, power}
 use Rattle.field.specs.Tables.{logs, inverse}

@@ -1,2 +1,3 @@
 -- What the contracts of `tumbeliko` cite beside the definitions of the crates below.
 pub mod Tables
+pub mod Records

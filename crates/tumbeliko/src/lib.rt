@@ -3,13 +3,31 @@
 use boards::Table;
 use ground::Digest;
 use ground::Sized;
+use record::Read;
+use sending::Sent;
+use step::Stepped;
 ghost use mathlib.Core.Path.{_≡_};
+ghost use lib.ListN.{length};
+ghost use Rattle.record.specs.Form.{parse};
 ghost use Rattle.tree.specs.Check.{pathCorrect};
 ghost use Rattle.ground.specs.Hashing.{hashOf};
 ghost use Rattle.ground.specs.Encoding.{encoded, encodeOf};
 ghost use Rattle.ground.specs.Rebuilding.{Rebuilds};
 ghost use Rattle.ground.specs.Reading.{readOut, readOf};
+ghost use Rattle.board.specs.Started.{begun, startOf};
+ghost use Rattle.sending.specs.Sent.{sendOut, sendOf};
+ghost use Rattle.step.specs.Step.{outcome, stepOf};
 ghost use Rattle.tumbeliko.specs.Tables.{tableFrom};
+ghost use Rattle.tumbeliko.specs.Records.{partsOf, writeRefusal, written, writeOf};
+
+// The parts of a record: the refusal's number, or 0; the kind, the path's nodes and the fragment's bytes.
+#[repr(C)]
+pub struct Parts {
+    pub number: u32,
+    pub kind: u32,
+    pub nodes: u32,
+    pub length: u32,
+}
 
 // The four numbers as a table.
 fn table(n: u32, t: u32, sender: u32, longest: u32) -> Table
@@ -93,4 +111,110 @@ pub extern "C" fn tumbeliko_read_block(
     ensures { λ r. ⌜ readOut r (now (message .exit)) ≡ readOf (tableFrom n t sender longest) (now (block .entry)) (now (message .entry)) ⌝ }
 {
     ground::read_block(table(n, t, sender, longest), block, message)
+}
+
+// The parts of a record; 5.
+#[no_mangle]
+pub extern "C" fn tumbeliko_read_record(record: &[u8]) -> Parts
+    ensures { λ r. ⌜ r ≡ partsOf (parse (now («record» .entry))) ⌝ }
+{
+    match record::read_record(record) {
+        Read::Form { kind, nodes, len } => Parts {
+            number: 0,
+            kind: kind as u32,
+            nodes: nodes as u32,
+            length: len as u32,
+        },
+        Read::Fault { why: _, at: _ } => Parts {
+            number: 5,
+            kind: 0,
+            nodes: 0,
+            length: 0,
+        },
+    }
+}
+
+// Why writing a record is refused, or 0.
+fn write_refusal(kind: u32, root: &[u8], path: &[u8], fragment: &[u8], out: &[u8]) -> u32
+    ensures { λ r. ⌜ r ≡ writeRefusal kind (now (root .entry)) (now (path .entry)) (now (fragment .entry)) (now (out .entry)) ⌝ }
+{
+    if out.len() < 16619 {
+        return 2;
+    }
+    if !record::parts_ok(kind, root.len(), path.len(), fragment.len()) {
+        return 5;
+    }
+    0
+}
+
+// A record of these parts; 2, 5.
+#[no_mangle]
+pub extern "C" fn tumbeliko_write_record(
+    kind: u32,
+    root: &[u8],
+    path: &[u8],
+    fragment: &[u8],
+    out: &mut [u8],
+) -> Sized
+    ensures { λ r. ⌜ written r (now (out .exit)) ≡ writeOf kind (now (root .entry)) (now (path .entry)) (now (fragment .entry)) (now (out .entry)) ⌝ }
+{
+    let q = write_refusal(kind, root, path, fragment, out);
+    if q != 0 {
+        return Sized {
+            number: q,
+            length: 0,
+        };
+    }
+    let nodes = path.len() / 32;
+    record::write_parts(out, kind as u8, root, nodes, path, fragment);
+    Sized {
+        number: 0,
+        length: (39 + path.len() + fragment.len()) as u32,
+    }
+}
+
+// A fresh state; 1, 2.
+#[no_mangle]
+pub extern "C" fn tumbeliko_start(
+    n: u32,
+    t: u32,
+    sender: u32,
+    longest: u32,
+    own: u32,
+    state: &mut [u8],
+) -> u32
+    ensures { λ r. ⌜ begun r (now (state .exit)) ≡ startOf (tableFrom n t sender longest) own (now (state .entry)) ⌝ }
+{
+    board::start(n, t, sender, longest, own, state)
+}
+
+// One record through a board's step; 2 at once for a state under 4,608 bytes, then 3, 2, 4, 5, 6, 7, 8, 9.
+#[no_mangle]
+pub extern "C" fn tumbeliko_step(
+    state: &mut [u8],
+    from: u32,
+    record: &[u8],
+    out: &mut [u8],
+    delivery: &mut [u8],
+) -> Stepped
+    ensures { λ r. ⌜ outcome r (now (state .exit)) (now (out .exit)) (now (delivery .exit))
+        ≡ stepOf (now (state .entry)) from (now («record» .entry)) (now (out .entry)) (now (delivery .entry)) ⌝ }
+{
+    step::step(state, from as usize, record, out, delivery)
+}
+
+// The sender's record for one board; 1, 2, 4, 13.
+#[no_mangle]
+pub extern "C" fn tumbeliko_send(
+    n: u32,
+    t: u32,
+    sender: u32,
+    longest: u32,
+    message: &[u8],
+    to: u32,
+    out: &mut [u8],
+) -> Sent
+    ensures { λ r. ⌜ sendOut r (now (out .exit)) ≡ sendOf (tableFrom n t sender longest) (now (message .entry)) to (now (out .entry)) ⌝ }
+{
+    sending::send(table(n, t, sender, longest), message, to as usize, out)
 }

@@ -1,64 +1,45 @@
 use Prim.Native.Nat.{_≤_}
 use Rattle.octets.specs.Sets.{has}
-use mathlib.Core.Path.{_≡_, sym, _∙_, ap}
 use native.Mathlib.Omega.{arith}
 use borrow.Author.Tests.{lt-ltb, le-ltb}
-use lib.ListN.{length}
-use Prim.Native.Nat.{ℕ, _<_}
 use Rattle.octets.specs.Bytes.{pick}
-use Rattle.ground.specs.Rebuilding.{byLengths, commonLength, firstOf, someOutside, lengthAt}
+use Rattle.ground.specs.Rebuilding.{byLengths, commonLength, firstOf}
 use Rattle.ground.proofs.Firsts.{no-lengths}
 use borrow.Author.Needs.{needs}
 use Rattle.ground.proofs.by_lengths.Statement.{statement}
 use Rattle.ground.proofs.by_lengths.Tie as tie
-use Rattle.ground.proofs.by_lengths.Reads as reads
-use Rattle.ground.proofs.by_lengths.Lts as lts
-use Rattle.boards.proofs.size.Reads as size-reads
-use Rattle.ground.proofs.first_marked.Reads as first-marked-reads
-use Rattle.ground.proofs.length_at.Reads as length-at-reads
-use Rattle.ground.proofs.some_outside.Reads as some-outside-reads
 
--- src/lib.rt:99:8
 some-outside-requires : tie.Need-some-outside-requires
 some-outside-requires c κs = search needs
 
--- src/lib.rt:100:9
 returns : tie.Need-returns
 unfolding byLengths pick
 returns c = rw (← c .before .some-outside .ensures, c .if1 .taken)
 
--- src/lib.rt:102:8
 size-requires : tie.Need-size-requires
 size-requires c κs = search needs
 
--- src/lib.rt:103:9
 returns-2 : tie.Need-returns-2
 unfolding byLengths pick
 returns-2 c = rw (← c .before .before .before .some-outside .ensures, c .before .before .if1 .left, ← c .before .size .ensures .0, lt-ltb _ _ (c .if2 .taken))
 
--- src/lib.rt:105:9
 first-marked-requires : tie.Need-first-marked-requires
 first-marked-requires c κs = search needs
 
--- src/lib.rt:107:9
 returns-3 : tie.Need-returns-3
 unfolding byLengths pick
 returns-3 c = let a = c .before .before .before .before .before .before .before .args in let e : a .n ≤ firstOf (has (a .marked)) 0 (a .n) = omega (arith, c .before .first-marked .ensures .0) in rw (← c .before .before .before .before .before .some-outside .ensures, c .before .before .before .before .if1 .left, ← c .before .before .before .size .ensures .0, le-ltb _ _ (c .before .before .if2 .left), no-lengths (a .n) (commonLength (a .n) (a .marked) (a .lengths .now)) (commonLength (a .n) (a .marked) (a .lengths .now)) (a .marked) (a .lengths .now) e)
 
--- src/lib.rt:109:9
 length-at-requires : tie.Need-length-at-requires
 length-at-requires c κs = (omega arith, omega arith)
 
--- src/lib.rt:110:8
 some-outside-requires-2 : tie.Need-some-outside-requires-2
 some-outside-requires-2 c κs = search needs
 
--- src/lib.rt:111:9
 returns-4 : tie.Need-returns-4
 unfolding byLengths pick commonLength
 returns-4 c = rw (← c .before .before .before .before .before .before .before .before .some-outside .ensures, c .before .before .before .before .before .before .before .if1 .left, ← c .before .before .before .before .before .before .size .ensures .0, le-ltb _ _ (c .before .before .before .before .before .if2 .left), ← c .before .before .before .before .first-marked .ensures .0, ← c .before .before .length-at .ensures .0, ← c .before .some-outside2 .ensures, c .if4 .taken)
 
--- src/lib.rt:95:1
 returns-5 : tie.Need-returns-5
 unfolding byLengths pick commonLength
 returns-5 c = rw (← c .before .before .before .before .before .before .before .before .some-outside .ensures, c .before .before .before .before .before .before .before .if1 .left, ← c .before .before .before .before .before .before .size .ensures .0, le-ltb _ _ (c .before .before .before .before .before .if2 .left), ← c .before .before .before .before .first-marked .ensures .0, ← c .before .before .length-at .ensures .0, ← c .before .some-outside2 .ensures, c .if4 .left)

@@ -1,80 +1,56 @@
 use mathlib.Core.Path.{refl}
 use Rattle.ground.proofs.Taken.{encode-rows, encode-area, encode-rooms, encode-made}
-use mathlib.Core.Path.{_≡_, sym, _∙_, ap}
+use mathlib.Core.Path.{sym, _∙_}
 use native.Mathlib.Omega.{arith}
 use native.Mathlib.Nat as N
 use Rattle.boards.proofs.Within.{within}
-use Rattle.octets.proofs.Places.{length-places}
-use Rattle.ground.proofs.Taken.{encode-taken, encode-refused, encode-done, rows-most}
+use Rattle.ground.proofs.Taken.{encode-taken, encode-refused}
 use borrow.Author.Needs.{needs}
 use Rattle.ground.proofs.encode.Statement.{statement}
 use Rattle.ground.proofs.encode.Tie as tie
-use Rattle.ground.proofs.encode.Reads as reads
-use Rattle.ground.proofs.encode.Lts as lts
-use Rattle.boards.proofs.fragment_most.Reads as fragment-most-reads
-use Rattle.boards.proofs.fragments_needed.Reads as fragments-needed-reads
-use Rattle.code.proofs.row_count.Reads as row-count-reads
-use Rattle.encoding.proofs.put_fragments.Reads as put-fragments-reads
-use Rattle.ground.proofs.encode_refusal.Reads as encode-refusal-reads
-use Rattle.tree.proofs.write_tree.Reads as write-tree-reads
 
--- src/lib.rt:71:9
 encode-refusal-requires : tie.Need-encode-refusal-requires
 encode-refusal-requires c κs = search needs
 
--- src/lib.rt:73:9
 same-length : tie.Need-same-length
 same-length c = search needs
 
--- src/lib.rt:73:9
 same-length-2 : tie.Need-same-length-2
 same-length-2 c = search needs
 
--- src/lib.rt:73:9
 same-length-3 : tie.Need-same-length-3
 same-length-3 c = search needs
 
--- src/lib.rt:73:9
 returns : tie.Need-returns
 returns c = encode-refused _ _ _ _ _ _ (c .if1 .taken) (c .before .encode-refusal .ensures)
 
--- src/lib.rt:76:9
 fragments-needed-requires : tie.Need-fragments-needed-requires
 fragments-needed-requires c κs = encode-taken _ _ _ _ _ (sym (c .before .encode-refusal .ensures) ∙ c .if1 .left) .limited
 
--- src/lib.rt:77:9
 fragment-most-requires : tie.Need-fragment-most-requires
 fragment-most-requires c κs = encode-taken _ _ _ _ _ (sym (c .before .before .encode-refusal .ensures) ∙ c .before .if1 .left) .limited
 
--- src/lib.rt:78:9
 row-count-requires : tie.Need-row-count-requires
 row-count-requires c κs = let t = encode-taken _ _ _ _ _ (sym (c .before .before .before .encode-refusal .ensures) ∙ c .before .before .if1 .left) in let w = within _ (t .limited) in (N.le-trans (t .fits) (w .short), c .before .fragments-needed .ensures .1, c .before .fragments-needed .ensures .3)
 
--- src/lib.rt:79:5
 put-fragments-requires : tie.Need-put-fragments-requires
 put-fragments-requires c κs = let z = sym (c .before .before .before .before .before .encode-refusal .ensures) ∙ c .before .before .before .before .if1 .left in let t = encode-taken _ _ _ _ _ z in let w = within _ (t .limited) in let k = c .before .before .before .fragments-needed .ensures in let s = c .before .before .fragment-most .ensures in (N.le-trans (t .fits) (w .short), k .1, w .few, k .2, encode-rows _ _ _ _ _ z _ _ _ (k .0) (s .0) (c .before .row-count .ensures), s .1, encode-area _ _ _ _ _ z _ _ _ (k .0) (s .0) (c .before .row-count .ensures))
 
--- src/lib.rt:80:5
 write-tree-requires : tie.Need-write-tree-requires
 write-tree-requires c κs = let z = sym (c .before .before .before .before .before .before .before .before .before .before .before .encode-refusal .ensures) ∙ c .before .before .before .before .before .before .before .before .before .before .if1 .left in let t = encode-taken _ _ _ _ _ z in (encode-rooms _ _ _ _ _ z _ _ _ (c .before .before .before .before .before .before .before .before .before .fragments-needed .ensures .0) (c .before .before .before .before .before .before .before .before .fragment-most .ensures .0) (c .before .before .before .before .before .before .before .row-count .ensures) _ _ (c .before .before .before .before .before .put-fragments .kept .1 .1 .1 .1 .0) refl, t .root-room)
 
--- src/lib.rt:83:17
 cast-t28 : tie.Need-cast-t28
 cast-t28 c = let z = sym (c .before .before .before .before .before .before .before .before .before .before .before .before .before .before .before .before .encode-refusal .ensures) ∙ c .before .before .before .before .before .before .before .before .before .before .before .before .before .before .before .if1 .left in omega (arith, c .before .before .before .before .before .before .before .before .before .before .before .before .row-count .ensures, c .before .before .before .before .before .before .before .before .before .before .before .before .before .fragment-most .ensures .1, encode-rows _ _ _ _ _ z _ _ _ (c .before .before .before .before .before .before .before .before .before .before .before .before .before .before .fragments-needed .ensures .0) (c .before .before .before .before .before .before .before .before .before .before .before .before .before .fragment-most .ensures .0) (c .before .before .before .before .before .before .before .before .before .before .before .before .row-count .ensures))
 
--- src/lib.rt:67:1
 same-length-4 : tie.Need-same-length-4
 same-length-4 c = search needs
 
--- src/lib.rt:67:1
 same-length-5 : tie.Need-same-length-5
 same-length-5 c = search needs
 
--- src/lib.rt:67:1
 same-length-6 : tie.Need-same-length-6
 same-length-6 c = search needs
 
--- src/lib.rt:67:1
 returns-2 : tie.Need-returns-2
 returns-2 c = let z = sym (c .before .before .before .before .before .before .before .before .before .before .before .before .before .before .before .before .encode-refusal .ensures) ∙ c .before .before .before .before .before .before .before .before .before .before .before .before .before .before .before .if1 .left in encode-made _ _ _ _ _ z _ _ _ (c .before .before .before .before .before .before .before .before .before .before .before .before .before .before .fragments-needed .ensures .0) (c .before .before .before .before .before .before .before .before .before .before .before .before .before .fragment-most .ensures .0) (c .before .before .before .before .before .before .before .before .before .before .before .before .row-count .ensures) _ _ _ (c .before .before .before .before .before .before .before .before .before .before .put-fragments .ensures) (c .before .before .before .before .write-tree .ensures .0) (c .before .before .before .before .write-tree .ensures .1)
 

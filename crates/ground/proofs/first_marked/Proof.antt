@@ -7,9 +7,6 @@ use Rattle.ground.specs.Rebuilding.{firstOf}
 use Rattle.ground.proofs.Firsts.{first-on, first-off, first-end}
 use Rattle.ground.proofs.first_marked.Statement.{statement}
 use Rattle.ground.proofs.first_marked.Tie as tie
-use Rattle.ground.proofs.first_marked.Reads as reads
-use Rattle.ground.proofs.first_marked.Lts as lts
-use Rattle.boards.proofs.member.Reads as member-reads
 
 abbrev Inv-loop : tie.InvT-loop
 Inv-loop n marked i₀ i = (i ≤ n) × (firstOf (has marked) 0 n ≡ firstOf (has marked) i (n - i))
@@ -17,31 +14,24 @@ Inv-loop n marked i₀ i = (i ≤ n) × (firstOf (has marked) 0 n ≡ firstOf (h
 abbrev μ-loop : tie.MeasureT-loop
 μ-loop n marked i₀ i = n - i
 
--- src/lib.rt:71:5
 loop-holds : tie.Need-loop-holds Inv-loop μ-loop
 loop-holds c = (omega arith, sym (whole (firstOf _) _ _ (omega arith)))
 
--- src/lib.rt:72:12
 member-requires : tie.Need-member-requires Inv-loop μ-loop
 member-requires c κs = omega arith
 
--- src/lib.rt:73:13
 returns : tie.Need-returns Inv-loop μ-loop
 returns c = (sym (c .before .before .before .loop .inv .1 ∙ first-on _ _ _ (c .before .before .loop-test .taken) (sym (c .before .member .ensures) ∙ c .if1 .taken)), omega arith)
 
--- src/lib.rt:75:9
 add-i : tie.Need-add-i Inv-loop μ-loop
 add-i c = omega arith
 
--- src/lib.rt:71:5
 loop-less : tie.Need-loop-less Inv-loop μ-loop
 loop-less c = omega arith
 
--- src/lib.rt:71:5
 loop-again : tie.Need-loop-again Inv-loop μ-loop
 loop-again c = (omega arith, c .before .before .before .loop .inv .1 ∙ first-off _ _ _ (c .before .before .loop-test .taken) (sym (c .before .member .ensures) ∙ c .if1 .left))
 
--- src/lib.rt:66:1
 returns-2 : tie.Need-returns-2 Inv-loop μ-loop
 returns-2 c = let e : c .before .loop .i ≡ c .before .before .args .n = omega arith in (sym (c .before .loop .inv .1 ∙ first-end _ _ _ (c .loop-test .left) ∙ e), omega arith)
 

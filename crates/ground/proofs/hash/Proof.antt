@@ -4,24 +4,17 @@ use Rattle.ground.specs.Hashing.{hashOf}
 use borrow.Author.Needs.{needs}
 use Rattle.ground.proofs.hash.Statement.{statement}
 use Rattle.ground.proofs.hash.Tie as tie
-use Rattle.ground.proofs.hash.Reads as reads
-use Rattle.ground.proofs.hash.Lts as lts
-use Rattle.sha256.proofs.joined.Reads as joined-reads
 
--- src/lib.rt:34:9
 returns : tie.Need-returns
 unfolding hashOf pick
 returns c = rw (lt-ltb _ _ (c .if1 .taken))
 
--- src/lib.rt:39:32
 slice-aggregate-joined : tie.Need-slice-aggregate-joined
 slice-aggregate-joined c = search needs
 
--- src/lib.rt:39:9
 joined-requires : tie.Need-joined-requires
 joined-requires c κs = search needs
 
--- src/lib.rt:30:1
 returns-2 : tie.Need-returns-2
 unfolding hashOf pick
 returns-2 c = rw (le-ltb _ _ (c .before .before .if1 .left), c .joined .ensures)

@@ -1,46 +1,31 @@
 use Rattle.ground.proofs.Taken.{read-refused, read-four, read-inside, read-done}
-use mathlib.Core.Path.{sym, _∙_, _≡_}
+use mathlib.Core.Path.{sym, _∙_}
 use native.Mathlib.Omega.{arith}
-use Rattle.ground.proofs.Taken.{read-taken}
-use Rattle.ground.specs.Reading.{readOf, readBy}
 use borrow.Author.Needs.{needs}
 use Rattle.ground.proofs.read_block.Statement.{statement}
 use Rattle.ground.proofs.read_block.Tie as tie
-use Rattle.ground.proofs.read_block.Reads as reads
-use Rattle.ground.proofs.read_block.Lts as lts
-use Rattle.ground.proofs.read_refusal.Reads as read-refusal-reads
-use Rattle.octets.proofs.copy_part.Reads as copy-part-reads
-use Rattle.octets.proofs.four_at.Reads as four-at-reads
 
--- src/lib.rt:47:9
 read-refusal-requires : tie.Need-read-refusal-requires
 read-refusal-requires c κs = search needs
 
--- src/lib.rt:49:9
 same-length : tie.Need-same-length
 same-length c = search needs
 
--- src/lib.rt:49:9
 returns : tie.Need-returns
 returns c = read-refused _ _ _ _ (c .if1 .taken) (c .before .read-refusal .ensures)
 
--- src/lib.rt:51:9
 four-at-requires : tie.Need-four-at-requires
 four-at-requires c κs = read-four _ _ _ (sym (c .before .read-refusal .ensures) ∙ c .if1 .left)
 
--- src/lib.rt:52:5
 copy-part-requires : tie.Need-copy-part-requires
 copy-part-requires c κs = let i = read-inside _ _ _ (sym (c .before .before .before .read-refusal .ensures) ∙ c .before .before .if1 .left) in (omega (arith, i .1, c .before .four-at .ensures .0), omega (arith, i .0, c .before .four-at .ensures .0))
 
--- src/lib.rt:55:17
 cast-t12 : tie.Need-cast-t12
 cast-t12 c = search needs
 
--- src/lib.rt:44:1
 same-length-2 : tie.Need-same-length-2
 same-length-2 c = search needs
 
--- src/lib.rt:44:1
 returns-2 : tie.Need-returns-2
 returns-2 c = read-done _ _ _ (sym (c .before .before .before .before .before .before .read-refusal .ensures) ∙ c .before .before .before .before .before .if1 .left) _ _ (c .before .before .before .before .four-at .ensures .0) (c .before .before .copy-part .ensures)
 

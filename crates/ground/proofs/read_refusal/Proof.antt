@@ -1,47 +1,33 @@
 use mathlib.Core.Path.{sym, _∙_}
 use Rattle.octets.proofs.Picks.{picks}
-use Rattle.octets.specs.Bytes.{pick}
-use native.Mathlib.Omega.{arith}
-use borrow.Author.Tests.{not-true, not-false}
+use borrow.Author.Tests.{not-false}
 use Rattle.boards.proofs.Within.{within}
 use Rattle.ground.specs.Reading.{readRefusal}
 use borrow.Author.Needs.{needs}
 use Rattle.ground.proofs.read_refusal.Statement.{statement}
 use Rattle.ground.proofs.read_refusal.Tie as tie
-use Rattle.ground.proofs.read_refusal.Reads as reads
-use Rattle.ground.proofs.read_refusal.Lts as lts
-use Rattle.boards.proofs.fragments_needed.Reads as fragments-needed-reads
-use Rattle.boards.proofs.in_limits.Reads as in-limits-reads
-use Rattle.code.proofs.can_read.Reads as can-read-reads
 
--- src/lib.rt:30:9
 in-limits-requires : tie.Need-in-limits-requires
 in-limits-requires c κs = search needs
 
--- src/lib.rt:31:9
 returns : tie.Need-returns
 unfolding readRefusal
 returns c = rw (← c .before .in-limits .ensures) (search picks)
 
--- src/lib.rt:34:9
 returns-2 : tie.Need-returns-2
 unfolding readRefusal
 returns-2 c = rw (← c .before .before .before .in-limits .ensures) (search picks)
 
--- src/lib.rt:36:9
 fragments-needed-requires : tie.Need-fragments-needed-requires
 fragments-needed-requires c κs = sym (c .before .before .before .in-limits .ensures) ∙ not-false (c .before .before .before .in-limits .result) (c .before .before .if1 .left)
 
--- src/lib.rt:37:9
 can-read-requires : tie.Need-can-read-requires
 can-read-requires c κs = let f = c .fragments-needed .ensures in let w = within _ (sym (c .before .before .before .before .in-limits .ensures) ∙ not-false (c .before .before .before .before .in-limits .result) (c .before .before .before .if1 .left)) in (f .1, f .3, w .short)
 
--- src/lib.rt:38:9
 returns-3 : tie.Need-returns-3
 unfolding readRefusal
 returns-3 c = rw (← c .before .before .before .before .before .before .in-limits .ensures, ← c .before .before .fragments-needed .ensures .0, ← c .before .can-read .ensures) (search picks)
 
--- src/lib.rt:27:1
 returns-4 : tie.Need-returns-4
 unfolding readRefusal
 returns-4 c = rw (← c .before .before .before .before .before .before .in-limits .ensures, ← c .before .before .fragments-needed .ensures .0, ← c .before .can-read .ensures) (search picks)

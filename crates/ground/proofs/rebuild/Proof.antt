@@ -1,74 +1,51 @@
 use mathlib.Core.Bool.{true, false}
-use mathlib.Core.Path.{_≡_, refl, sym, _∙_, ap}
+use mathlib.Core.Path.{sym, _∙_}
 use native.Mathlib.Omega.{arith}
-use native.Mathlib.Nat as N
-use Rattle.boards.proofs.Within.{within, k-few}
-use Rattle.ground.proofs.Taken.{rebuild-taken, rebuild-refused, first-below, common-size, rebuilt-made, rebuild-rooms, rebuild-length, rebuild-size}
+use Rattle.boards.proofs.Within.{within}
+use Rattle.ground.proofs.Taken.{rebuild-taken, rebuild-refused, first-below, rebuilt-made, rebuild-rooms, rebuild-length, rebuild-size}
 use borrow.Author.Needs.{needs}
 use Rattle.ground.proofs.rebuild.Statement.{statement}
 use Rattle.ground.proofs.rebuild.Tie as tie
-use Rattle.ground.proofs.rebuild.Reads as reads
-use Rattle.ground.proofs.rebuild.Lts as lts
-use Rattle.boards.proofs.fragment_most.Reads as fragment-most-reads
-use Rattle.boards.proofs.fragments_needed.Reads as fragments-needed-reads
-use Rattle.ground.proofs.first_marked.Reads as first-marked-reads
-use Rattle.ground.proofs.length_at.Reads as length-at-reads
-use Rattle.ground.proofs.rebuild_refusal.Reads as rebuild-refusal-reads
-use Rattle.rebuilding.proofs.rebuild.Reads as rebuild-reads
 
--- src/lib.rt:199:9
 rebuild-refusal-requires : tie.Need-rebuild-refusal-requires
 rebuild-refusal-requires c κs = search needs
 
--- src/lib.rt:201:9
 same-length : tie.Need-same-length
 same-length c = search needs
 
--- src/lib.rt:201:9
 returns : tie.Need-returns
 returns c = rebuild-refused _ _ _ _ _ _ (c .if1 .taken) (c .before .rebuild-refusal .ensures)
 
--- src/lib.rt:204:9
 fragments-needed-requires : tie.Need-fragments-needed-requires
 fragments-needed-requires c κs = rebuild-taken _ _ _ _ _ (sym (c .before .rebuild-refusal .ensures) ∙ c .if1 .left) .limited
 
--- src/lib.rt:205:9
 fragment-most-requires : tie.Need-fragment-most-requires
 fragment-most-requires c κs = rebuild-taken _ _ _ _ _ (sym (c .before .before .rebuild-refusal .ensures) ∙ c .before .if1 .left) .limited
 
--- src/lib.rt:206:9
 first-marked-requires : tie.Need-first-marked-requires
 first-marked-requires c κs = within _ (rebuild-taken _ _ _ _ _ (sym (c .before .before .before .rebuild-refusal .ensures) ∙ c .before .before .if1 .left) .limited) .few
 
--- src/lib.rt:207:9
 length-at-requires : tie.Need-length-at-requires
 length-at-requires c κs = let z = sym (c .before .before .before .before .rebuild-refusal .ensures) ∙ c .before .before .before .if1 .left in let t = rebuild-taken _ _ _ _ _ z in let w = within _ (t .limited) in (omega (arith, w .few, first-below _ _ _ _ _ z, c .first-marked .ensures .0), omega (arith, t .lengths-room, first-below _ _ _ _ _ z, c .first-marked .ensures .0))
 
--- src/lib.rt:208:8
 rebuild-requires : tie.Need-rebuild-requires
 rebuild-requires c κs = let a = c .before .before .before .before .before .before .before .before .before .before .before .args in let z = sym (c .before .before .before .before .before .before .rebuild-refusal .ensures) ∙ c .before .before .before .before .before .if1 .left in rebuild-rooms _ _ _ _ _ z _ _ _ (c .before .before .before .before .fragments-needed .ensures .0) (c .before .before .before .fragment-most .ensures .0) (rebuild-length (a .b) (a .marked) (a .lengths .now) (a .area .now) (a .block .now) _ _ (c .before .before .first-marked .ensures .0) (c .before .length-at .ensures .0))
 
--- src/lib.rt:211:22
 mul-t18 : tie.Need-mul-t18
 mul-t18 c = let a = c .before .before .before .before .before .before .before .before .before .before .before .before .before .before .before .args in let z = sym (c .before .before .before .before .before .before .before .before .before .before .rebuild-refusal .ensures) ∙ c .before .before .before .before .before .before .before .before .before .if1 .left in omega (arith, rebuild-size _ _ _ _ _ z _ _ _ (c .before .before .before .before .before .before .before .before .fragments-needed .ensures .0) (c .before .before .before .before .before .before .before .fragment-most .ensures .0) (rebuild-length (a .b) (a .marked) (a .lengths .now) (a .area .now) (a .block .now) _ _ (c .before .before .before .before .before .before .first-marked .ensures .0) (c .before .before .before .before .before .length-at .ensures .0)))
 
--- src/lib.rt:211:21
 cast-t19 : tie.Need-cast-t19
 cast-t19 c = let a = c .before .before .before .before .before .before .before .before .before .before .before .before .before .before .before .args in let z = sym (c .before .before .before .before .before .before .before .before .before .before .rebuild-refusal .ensures) ∙ c .before .before .before .before .before .before .before .before .before .if1 .left in omega (arith, rebuild-size _ _ _ _ _ z _ _ _ (c .before .before .before .before .before .before .before .before .fragments-needed .ensures .0) (c .before .before .before .before .before .before .before .fragment-most .ensures .0) (rebuild-length (a .b) (a .marked) (a .lengths .now) (a .area .now) (a .block .now) _ _ (c .before .before .before .before .before .before .first-marked .ensures .0) (c .before .before .before .before .before .length-at .ensures .0)))
 
--- src/lib.rt:209:9
 same-length-2 : tie.Need-same-length-2
 same-length-2 c = search needs
 
--- src/lib.rt:209:9
 returns-2 : tie.Need-returns-2
 returns-2 c = let a = c .before .before .before .before .before .before .before .before .before .before .before .before .before .before .before .args in let z = sym (c .before .before .before .before .before .before .before .before .before .before .rebuild-refusal .ensures) ∙ c .before .before .before .before .before .before .before .before .before .if1 .left in rebuilt-made _ _ _ _ _ z _ _ _ (c .before .before .before .before .before .before .before .before .fragments-needed .ensures .0) (c .before .before .before .before .before .before .before .fragment-most .ensures .0) (rebuild-length (a .b) (a .marked) (a .lengths .now) (a .area .now) (a .block .now) _ _ (c .before .before .before .before .before .before .first-marked .ensures .0) (c .before .before .before .before .before .length-at .ensures .0)) true _ (rw (c .if2 .taken) at (c .before .before .before .rebuild .ensures))
 
--- src/lib.rt:196:1
 same-length-3 : tie.Need-same-length-3
 same-length-3 c = search needs
 
--- src/lib.rt:196:1
 returns-3 : tie.Need-returns-3
 returns-3 c = let a = c .before .before .before .before .before .before .before .before .before .before .before .before .before .before .before .args in let z = sym (c .before .before .before .before .before .before .before .before .before .before .rebuild-refusal .ensures) ∙ c .before .before .before .before .before .before .before .before .before .if1 .left in rebuilt-made _ _ _ _ _ z _ _ _ (c .before .before .before .before .before .before .before .before .fragments-needed .ensures .0) (c .before .before .before .before .before .before .before .fragment-most .ensures .0) (rebuild-length (a .b) (a .marked) (a .lengths .now) (a .area .now) (a .block .now) _ _ (c .before .before .before .before .before .before .first-marked .ensures .0) (c .before .before .before .before .before .length-at .ensures .0)) false _ (rw (c .if2 .left) at (c .before .before .before .rebuild .ensures))
 

@@ -5,32 +5,24 @@ use Rattle.ground.specs.Rebuilding.{tooShort}
 use borrow.Author.Needs.{needs}
 use Rattle.ground.proofs.short.Statement.{statement}
 use Rattle.ground.proofs.short.Tie as tie
-use Rattle.ground.proofs.short.Reads as reads
-use Rattle.ground.proofs.short.Lts as lts
 
--- src/lib.rt:85:18
 mul-if1 : tie.Need-mul-if1
 mul-if1 c = search needs
 
--- src/lib.rt:86:9
 returns : tie.Need-returns
 unfolding tooShort
 returns c = search picks
 
--- src/lib.rt:88:15
 mul-if2 : tie.Need-mul-if2
 mul-if2 c = omega (arith, mul-le-mul (c .before .pre .0) (c .before .pre .2))
 
--- src/lib.rt:89:9
 returns-2 : tie.Need-returns-2
 unfolding tooShort
 returns-2 c = search picks
 
--- src/lib.rt:91:13
 mul-result : tie.Need-mul-result
 mul-result c = omega (arith, mul-le-mul (c .before .before .pre .1) (c .before .before .pre .2))
 
--- src/lib.rt:81:1
 returns-3 : tie.Need-returns-3
 unfolding tooShort
 returns-3 c = search picks

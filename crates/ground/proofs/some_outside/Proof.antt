@@ -8,9 +8,6 @@ use Rattle.octets.proofs.SetLaws.{some-on, some-off, some-end, whole}
 use Rattle.ground.specs.Rebuilding.{someOutside, lengthAt}
 use Rattle.ground.proofs.some_outside.Statement.{statement}
 use Rattle.ground.proofs.some_outside.Tie as tie
-use Rattle.ground.proofs.some_outside.Reads as reads
-use Rattle.ground.proofs.some_outside.Lts as lts
-use Rattle.ground.proofs.outside_at.Reads as outside-at-reads
 
 abbrev Inv-loop : tie.InvT-loop
 Inv-loop n lo hi marked lengths i₀ i =
@@ -19,32 +16,25 @@ Inv-loop n lo hi marked lengths i₀ i =
 abbrev μ-loop : tie.MeasureT-loop
 μ-loop n lo hi marked lengths i₀ i = n - i
 
--- src/lib.rt:56:5
 loop-holds : tie.Need-loop-holds Inv-loop μ-loop
 unfolding someOutside
 loop-holds c = (omega arith, sym (whole (some _) _ _ (omega arith)))
 
--- src/lib.rt:57:12
 outside-at-requires : tie.Need-outside-at-requires Inv-loop μ-loop
 outside-at-requires c κs = (omega arith, omega arith)
 
--- src/lib.rt:58:13
 returns : tie.Need-returns Inv-loop μ-loop
 returns c = sym (c .before .before .before .loop .inv .1 ∙ some-on _ _ _ (c .before .before .loop-test .taken) (sym (c .before .outside-at .ensures) ∙ c .if1 .taken))
 
--- src/lib.rt:60:9
 add-i : tie.Need-add-i Inv-loop μ-loop
 add-i c = omega arith
 
--- src/lib.rt:56:5
 loop-less : tie.Need-loop-less Inv-loop μ-loop
 loop-less c = omega arith
 
--- src/lib.rt:56:5
 loop-again : tie.Need-loop-again Inv-loop μ-loop
 loop-again c = (omega arith, c .before .before .before .loop .inv .1 ∙ some-off _ _ _ (c .before .before .loop-test .taken) (sym (c .before .outside-at .ensures) ∙ c .if1 .left))
 
--- src/lib.rt:51:1
 returns-2 : tie.Need-returns-2 Inv-loop μ-loop
 returns-2 c = sym (c .before .loop .inv .1 ∙ some-end _ _ _ (c .loop-test .left))
 

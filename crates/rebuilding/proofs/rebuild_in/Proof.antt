@@ -2,51 +2,34 @@
 -- Assumes nothing.
 use borrow.Author.Needs.{needs}
 use mathlib.Core.Path.{refl, sym, _∙_}
-use Prim.Native.Nat.{_-_}
 use native.Mathlib.Omega.{arith}
-use lib.ListN.{length, length-set}
-use lib.Seq.{getD-set-same, getD-set-other}
+use lib.ListN.{length}
 use Rattle.code.proofs.Lists.{false≢true}
 use Rattle.octets.proofs.Parts.{cleared}
 use Rattle.rebuilding.proofs.Rows.{first-boards}
 use Rattle.rebuilding.proofs.rebuild_in.Statement.{statement}
 use Rattle.rebuilding.proofs.rebuild_in.Tie as tie
 
-clear-at-requires : tie.Need-clear-at-requires
-clear-at-requires c κs = search needs
-
-slice-write-m : tie.Need-slice-write-m
-slice-write-m c = search needs
-
-master-requires : tie.Need-master-requires
-master-requires c κs =
-    let s = c .before .before .before .before .before .before .before .before .before .before .before .before .before in
-    let k = length (s .args .points .now) in
-    let l = c .before .before .before .clear-at in (
-      length-set (l .last .0) k 1 ∙ l .kept .0 ∙ s .pre .7,
-      (λ i h. getD-set-other (l .last .0) k i 1 0 (λ e. omega arith)
-          ∙ cleared k (s .args .m .now) (l .last .0) (omega (arith, s .pre .7)) (l .ensures) i h),
-      getD-set-same (l .last .0) k 1 0 (omega (arith, l .kept .0, s .pre .7)),
-    )
-
-scales-requires : tie.Need-scales-requires
-scales-requires c κs = search needs
+prepare-requires : tie.Need-prepare-requires
+prepare-requires c κs =
+    let p = c .before .before .before .before .before .before .before .before .before .before .pre in
+    (p .3, p .7, p .8)
 
 others-agree-requires : tie.Need-others-agree-requires
 others-agree-requires c κs =
-    let p = c .before .before .before .before .before .before .before .before .before .before .before .before .before .before .before .before .before .before .before .before .before .before .before .before .before .pre in
-    let d = c .before .before .before .before .before .before .scales in
-    (p .0, p .1, p .2, p .3, p .4, c .before .before .before .before .before .before .before .before .before .before .before .master .ensures, d .kept .1 .1 .0 ∙ p .8, d .ensures, p .9, p .10)
+    let p = c .before .before .before .before .before .before .before .before .before .before .before .before .before .before .before .before .before .before .before .pre in
+    let d = c .before .before .before .before .before .before .before .before .prepare in
+    (p .0, p .1, p .2, p .3, p .4, d .ensures .0, d .kept .1 .1 .0 ∙ p .8, d .ensures .1, p .9, p .10)
 
-clear-at-requires-2 : tie.Need-clear-at-requires-2
-clear-at-requires-2 c κs = search needs
+clear-at-requires : tie.Need-clear-at-requires
+clear-at-requires c κs = search needs
 
 write-columns-requires : tie.Need-write-columns-requires
 write-columns-requires c κs =
-    let s = c .before .before .before .before .before .before .before .before .before .before .before .before .before .before .before .before .before .before .before .before .before .before .before .before .before .before .before .before .before .before .before .before .before .before .before .before .before .before .before .before in
+    let s = c .before .before .before .before .before .before .before .before .before .before .before .before .before .before .before .before .before .before .before .before .before .before .before .before .before .before .before .before .before .before .before .before .before .before in
     let p = s .pre in
-    let w = c .before .before .before .before .before .before .before .clear-at2 in
-    let d = c .before .before .before .before .before .before .before .before .before .before .before .before .before .before .before .before .before .before .before .before .before .scales in
+    let w = c .before .before .before .before .before .before .before .clear-at in
+    let d = c .before .before .before .before .before .before .before .before .before .before .before .before .before .before .before .before .before .before .before .before .before .before .before .prepare in
     let o = c .before .before .before .before .before .before .before .before .before .before .before .before .before .before .others-agree in (
       first-boards (length (s .args .area .now)) (s .args .s) (s .args .points .now) (s .args .marked .now) (s .pre .4) (s .pre .0),
       p .1,
@@ -54,9 +37,9 @@ write-columns-requires c κs =
       p .3,
       p .5,
       p .6,
-      c .before .before .before .before .before .before .before .before .before .before .before .before .before .before .before .before .before .before .before .before .before .before .before .before .before .before .master .ensures,
+      d .ensures .0,
       d .kept .1 .1 .0 ∙ p .8,
-      d .ensures,
+      d .ensures .1,
       w .kept .0 ∙ o .kept .1 .1 .1 .1 .1 .1 .1 .0 ∙ p .9,
       (λ j h. cleared (length (s .args .points .now)) (o .last .1 .1 .1 .1 .1 .1 .1 .0) (w .last .0) (omega (arith, o .kept .1 .1 .1 .1 .1 .1 .1 .0, p .9)) (w .ensures) j
           (omega (arith, w .kept .0, o .kept .1 .1 .1 .1 .1 .1 .1 .0, p .9))),
@@ -67,9 +50,7 @@ same-length : tie.Need-same-length
 same-length c = search needs
 
 same-length-2 : tie.Need-same-length-2
-same-length-2 c =
-    let l = c .before .before .before .before .before .before .before .before .before .before .before .before .before .before .before .before .before .before .before .before .before .before .before .before .before .before .before .before .before .before .before .before .before .before .before .before .before .clear-at in
-    c .before .before .before .before .before .before .before .before .before .before .before .before .before .before .before .before .before .before .before .before .before .before .before .before .before .before .before .before .before .before .before .before .before .master .kept .1 .0 ∙ length-set (l .last .0) _ 1 ∙ l .kept .0
+same-length-2 c = search needs
 
 same-length-3 : tie.Need-same-length-3
 same-length-3 c = search needs
@@ -112,12 +93,9 @@ pub rebuild-in-spec : {M : Type 1} → statement M
 rebuild-in-spec =
     tie.close
     (tie.spec
-    clear-at-requires
-    slice-write-m
-    master-requires
-    scales-requires
+    prepare-requires
     others-agree-requires
-    clear-at-requires-2
+    clear-at-requires
     write-columns-requires
     same-length
     same-length-2

@@ -1,11 +1,10 @@
 -- `sha256::chained` meets its contract. Assumes nothing.
 use Prim.Native.Nat.{ℕ, _≤_, _-_, _/_}
 use mathlib.Core.List.{_++_}
-use mathlib.Core.Path.{_≡_, refl, _∙_, ap}
+use mathlib.Core.Path.{_≡_, _∙_, ap}
 use native.Mathlib.Numerals.{add-one}
 use native.Mathlib.Omega.{arith}
 use lib.ListN.{length, length-append}
-use Rattle.sha256.specs.Tables.{H0}
 use Rattle.sha256.specs.Sha256.{chain, pad}
 use Rattle.sha256.proofs.Padding.{length-pad}
 use Rattle.sha256.proofs.chained.Statement.{statement}
@@ -23,16 +22,15 @@ add-count c = omega arith
 add-count-2 : tie.Need-add-count-2 Inv-loop μ-loop
 add-count-2 c = omega arith
 
+begun-requires : tie.Need-begun-requires Inv-loop μ-loop
+begun-requires c κs = tt
+
 loop-holds : tie.Need-loop-holds Inv-loop μ-loop
-unfolding chain H0
-loop-holds c = (omega arith, refl)
+unfolding chain
+loop-holds c = (omega arith, c .begun .ensures)
 
 absorbed-requires : tie.Need-absorbed-requires Inv-loop μ-loop
-absorbed-requires c κs =
-    let a = c .before .before .before .before .args in
-    let h = a .head .now in
-    let b = a .body .now in
-    omega (arith, length-append h b, length-pad (h ++ b))
+absorbed-requires c κs = omega (arith, length-append (c .before .before .before .before .before .args .head .now) (c .before .before .before .before .before .args .body .now), length-pad (c .before .before .before .before .before .args .head .now ++ c .before .before .before .before .before .args .body .now))
 
 add-k : tie.Need-add-k Inv-loop μ-loop
 add-k c = omega arith
@@ -46,7 +44,7 @@ loop-again c = (omega arith, rw (add-one, ← c .before .before .loop .inv .1) (
 
 returns : tie.Need-returns Inv-loop μ-loop
 returns c =
-    let a = c .before .before .before .before .args in
+    let a = c .before .before .before .before .before .args in
     let h = a .head .now in
     let b = a .body .now in
     let e : c .before .loop .k ≡ length (pad (h ++ b)) / 64 = omega (arith, length-append h b, length-pad (h ++ b)) in
@@ -60,6 +58,7 @@ chained-spec =
     μ-loop
     add-count
     add-count-2
+    begun-requires
     loop-holds
     absorbed-requires
     add-k

@@ -1,0 +1,132 @@
+-- What a record that is taken gives; and a refusal's number is never 0.
+use mathlib.Core.Path.{_≡_, refl, subst, ap, _∙_}
+use Prim.Native.Nat.{ℕ, suc, _+_, _-_, _*_, _≤_}
+use mathlib.Core.List.{List}
+use mathlib.Core.Bool.{Bool, true, false, not, _||_}
+use native.Mathlib.Omega.{arith}
+use native.Mathlib.Nat.{mul-le-mul-right, suc-mul}
+use borrow.Author.Tests.{ltb-false, not-false}
+use lib.ListN.{length}
+use lib.Dec.{ltb}
+use Rattle.octets.specs.Bytes.{pick}
+use Rattle.boards.specs.Table.{sMax}
+use Rattle.boards.specs.declared.Table.{Table}
+use Rattle.record.specs.Form.{parse}
+use Rattle.record.specs.declared.Read.{Read}
+use Rattle.record.specs.declared.Read.the-variants.{Form, Fault}
+use Rattle.state.specs.State.{view, stateSize, tableOf, marksOf, fragmentAt}
+use Rattle.state.specs.Sound.{isBoard, sound}
+use Rattle.state.specs.declared.Marks.{Marks}
+use Rattle.state.proofs.Facts.{board-number}
+use Rattle.board.specs.declared.Plan.{Plan}
+use Rattle.board.specs.declared.Plan.the-variants.{Refuse, Take}
+use Rattle.board.specs.Planned.{isShort, isStray, isLate, isAgain, byMarks, byForm, planOf}
+use Rattle.octets.proofs.Picks.{or-none-l, or-none-r}
+
+-- a test on the way to taking a record was not met
+unmet : (b : Bool) (q : ℕ) (y : Plan) (k p f : ℕ) → pick b (Refuse q) y ≡ Take k p f → (b ≡ false) × (y ≡ Take k p f)
+unfolding pick
+unmet true q y k p f e = absurd (let z : _≡_ {A = ℕ} 0 1 = cc in omega arith)
+unmet false q y k p f e = (refl, e)
+
+-- the marks allow it
+pub record Allowed (b : Table) (m : Marks) (from k f : ℕ) : Type 0 where
+  pub stray : isStray b from k ≡ false
+  pub short : f ≤ sMax b
+  pub late : isLate m k ≡ false
+  pub again : isAgain m (from - 1) k ≡ false
+
+-- what a record that is taken gives
+pub record Taken (s : List ℕ) (from : ℕ) (r o d : List ℕ) (k p f : ℕ) : Type 0 where
+  pub long : 4608 ≤ length s
+  pub sound : sound (view s) ≡ true
+  pub room : stateSize (tableOf s) ≤ length s
+  pub out : 16619 ≤ length o
+  pub delivery : tableOf s .longest ≤ length d
+  pub board : isBoard (tableOf s) from ≡ true
+  pub form : parse r ≡ Form k p f
+  pub allowed : Allowed (tableOf s) (marksOf s) from k f
+
+allow : (b : Table) (m : Marks) (from k p f k′ p′ f′ : ℕ) → byMarks b m from k p f ≡ Take k′ p′ f′ → (Form k p f ≡ Form k′ p′ f′) × Allowed b m from k f
+unfolding byMarks
+allow b m from k p f k′ p′ f′ e =
+    let h1 = unmet (isStray b from k) _ _ _ _ _ e in
+    let h2 = unmet (ltb (sMax b) f) _ _ _ _ _ (h1 .1) in
+    let h3 = unmet (isLate m k) _ _ _ _ _ (h2 .1) in
+    let h4 = unmet (isAgain m (from - 1) k) _ _ _ _ _ (h3 .1) in
+    let z = h4 .1 in
+    (cc, record { stray = h1 .0; short = ltb-false (sMax b) f (h2 .0); late = h3 .0; again = h4 .0 })
+
+read : (b : Table) (m : Marks) (from : ℕ) (x : Read) (k p f : ℕ) → byForm b m from x ≡ Take k p f → (x ≡ Form k p f) × Allowed b m from k f
+unfolding byForm
+read b m from (Fault w a) k p f e = absurd (let z : _≡_ {A = ℕ} 0 1 = cc in omega arith)
+read b m from (Form k p f) k′ p′ f′ e =
+    let h = allow b m from k p f k′ p′ f′ e in
+    let x : k ≡ k′ = cc (h .0) in
+    let y : f ≡ f′ = cc (h .0) in
+    (h .0, rw (x, y) at (h .1))
+
+pub taken : (s : List ℕ) (from : ℕ) (r o d : List ℕ) (k p f : ℕ) → planOf s from r o d ≡ Take k p f → Taken s from r o d k p f
+unfolding planOf isShort
+taken s from r o d k p f e =
+    let b = tableOf s in
+    let A = ltb (length s) (stateSize b) in
+    let B = ltb (length o) 16619 in
+    let C = ltb (length d) (b .longest) in
+    let h1 = unmet (ltb (length s) 4608) _ _ _ _ _ e in
+    let h2 = unmet (not (sound (view s))) _ _ _ _ _ (h1 .1) in
+    let h3 = unmet (A || (B || C)) _ _ _ _ _ (h2 .1) in
+    let h4 = unmet (not (isBoard b from)) _ _ _ _ _ (h3 .1) in
+    let h5 = read b (marksOf s) from (parse r) k p f (h4 .1) in
+    record {
+      long = ltb-false (length s) 4608 (h1 .0);
+      sound = not-false (sound (view s)) (h2 .0);
+      room = ltb-false (length s) (stateSize b) (or-none-l A (B || C) (h3 .0));
+      out = ltb-false (length o) 16619 (or-none-l B C (or-none-r A (B || C) (h3 .0)));
+      delivery = ltb-false (length d) (b .longest) (or-none-r B C (or-none-r A (B || C) (h3 .0)));
+      board = not-false (isBoard b from) (h4 .0);
+      form = h5 .0;
+      allowed = h5 .1;
+    }
+
+-- the board is not done
+pub not-done : {s : List ℕ} {from : ℕ} {r o d : List ℕ} {k p f : ℕ} → Taken s from r o d k p f → marksOf s .done ≡ false
+unfolding isLate
+not-done {s} t = or-none-l (marksOf s .done) _ (t .allowed .late)
+
+-- a fragment of at most s_max bytes has room in its board's place
+pub fragment-room : (b : Table) (from f len : ℕ) → isBoard b from ≡ true → f ≤ sMax b → stateSize b ≤ len → fragmentAt (sMax b) (from - 1) + f ≤ len
+unfolding stateSize
+fragment-room b from f len h l m =
+    let (one, few) = board-number b from h in
+    let e : from ≡ suc (from - 1) = omega arith in
+    let p : from * sMax b ≤ b .n * sMax b = mul-le-mul-right (sMax b) few in
+    let q : from * sMax b ≡ (from - 1) * sMax b + sMax b = ap (λ (x : ℕ). x * sMax b) e ∙ suc-mul (from - 1) (sMax b) in
+    omega arith
+
+-- a refusal's number is from 2 to 9
+abbrev Listed : Plan → Type 0
+Listed (Refuse q) = (2 ≤ q) × (q ≤ 9)
+Listed (Take k p f) = Unit
+
+listed-pick : (b : Bool) (q : ℕ) (y : Plan) → 2 ≤ q → q ≤ 9 → Listed y → Listed (pick b (Refuse q) y)
+unfolding pick
+listed-pick true q y h k l = (h, k)
+listed-pick false q y h k l = l
+
+listed-form : (b : Table) (m : Marks) (from : ℕ) (x : Read) → Listed (byForm b m from x)
+unfolding byForm byMarks
+listed-form b m from (Fault w a) = (omega arith, omega arith)
+listed-form b m from (Form k p f) =
+    listed-pick (isStray b from k) 6 _ (omega arith) (omega arith)
+    (listed-pick (ltb (sMax b) f) 7 _ (omega arith) (omega arith)
+    (listed-pick (isLate m k) 8 _ (omega arith) (omega arith)
+    (listed-pick (isAgain m (from - 1) k) 9 (Take k p f) (omega arith) (omega arith) tt)))
+
+pub listed : (s : List ℕ) (from : ℕ) (r o d : List ℕ) (q : ℕ) → planOf s from r o d ≡ Refuse q → (2 ≤ q) × (q ≤ 9)
+unfolding planOf
+listed s from r o d q e = subst Listed e
+    (listed-pick (ltb (length s) 4608) 2 _ (omega arith) (omega arith)
+    (listed-pick (not (sound (view s))) 3 _ (omega arith) (omega arith)
+    (listed-pick (isShort (tableOf s) (length s) (length o) (length d)) 2 _ (omega arith) (omega arith)
+    (listed-pick (not (isBoard (tableOf s) from)) 4 _ (omega arith) (omega arith) (listed-form (tableOf s) (marksOf s) from (parse r))))))

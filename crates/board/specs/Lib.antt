@@ -1,0 +1,4 @@
+-- What the contracts of `board` cite.
+pub mod Planned
+pub mod Started
+pub mod Stepped

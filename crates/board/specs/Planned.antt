@@ -1,0 +1,57 @@
+-- Document 01, "Refusal numbers": what a step is to do with a record. "The first that applies is given."
+use Prim.Native.Nat.{ℕ, _-_}
+use mathlib.Core.List.{List}
+use mathlib.Core.Bool.{Bool, not, _&&_, _||_}
+use lib.ListN.{length}
+use lib.Dec.{ltb, eqb}
+use Rattle.octets.specs.Bytes.{pick}
+use Rattle.octets.specs.Sets.{has}
+use Rattle.boards.specs.Table.{sMax}
+use Rattle.boards.specs.declared.Table.{Table}
+use Rattle.record.specs.Form.{parse}
+use Rattle.record.specs.declared.Read.{Read}
+use Rattle.record.specs.declared.Read.the-variants.{Form, Fault}
+use Rattle.state.specs.State.{view, stateSize, tableOf, marksOf}
+use Rattle.state.specs.Sound.{isBoard, sound}
+use Rattle.state.specs.declared.Marks.{Marks}
+use Rattle.board.specs.declared.Plan.{Plan}
+use Rattle.board.specs.declared.Plan.the-variants.{Refuse, Take}
+
+-- 2, "a lent buffer shorter than needed": the state, "an outgoing record buffer 16,619; a delivery buffer L"
+unfoldable pub isShort : Table → ℕ → ℕ → ℕ → Bool
+isShort b state out delivery = ltb state (stateSize b) || (ltb out 16619 || ltb delivery (b .longest))
+
+-- 6, "send from a board other than S"
+unfoldable pub isStray : Table → ℕ → ℕ → Bool
+isStray b from k = eqb k 1 && not (eqb from (b .sender))
+
+-- 8, "board done, or a send in the output stage"
+unfoldable pub isLate : Marks → ℕ → Bool
+isLate m k = m .done || (eqb k 1 && m .output)
+
+-- 9, "second send, second echo or second vote from that board", of board i + 1
+unfoldable pub isAgain : Marks → ℕ → ℕ → Bool
+isAgain m i k = pick (eqb k 1) (m .acquired) (pick (eqb k 2) (has (m .echoes) i) (has (m .votes) i))
+
+-- a record of kind k, with p path nodes and f fragment bytes, from a board; 7 is "fragment longer than s_max"
+unfoldable pub byMarks : Table → Marks → ℕ → ℕ → ℕ → ℕ → Plan
+byMarks b m from k p f =
+    pick (isStray b from k) (Refuse 6)
+    (pick (ltb (sMax b) f) (Refuse 7)
+    (pick (isLate m k) (Refuse 8)
+    (pick (isAgain m (from - 1) k) (Refuse 9)
+    (Take k p f))))
+
+-- 5, "record not of the form above"
+unfoldable pub byForm : Table → Marks → ℕ → Read → Plan
+byForm b m from (Fault why at) = Refuse 5
+byForm b m from (Form k p f) = byMarks b m from k p f
+
+-- "a step looks in the order 3, 2, 4, 5, 6, 7, 8, 9, but a state buffer under 4,608 bytes gives 2 at once"
+unfoldable pub planOf : List ℕ → ℕ → List ℕ → List ℕ → List ℕ → Plan
+planOf s from r o d =
+    pick (ltb (length s) 4608) (Refuse 2)
+    (pick (not (sound (view s))) (Refuse 3)
+    (pick (isShort (tableOf s) (length s) (length o) (length d)) (Refuse 2)
+    (pick (not (isBoard (tableOf s) from)) (Refuse 4)
+    (byForm (tableOf s) (marksOf s) from (parse r)))))

@@ -1,0 +1,50 @@
+-- Working definitions of a delivery that has no block in memory: each byte of the block, and of the fragments, as a weighed sum of kept bytes.
+-- Assumes nothing.
+use mathlib.Core.Path.{_≡_}
+use mathlib.Core.List.{List}
+use Prim.Native.Nat.{ℕ, suc, _+_, _-_, _*_, _/_, _%_, _<_, _≤_}
+use lib.Dec.{ltb}
+use lib.ListN.{length, getD}
+use Rattle.octets.specs.Bytes.{pick}
+use Rattle.code.specs.Code.{value, row}
+use Rattle.rebuilding.specs.Fits.{Boards}
+use Rattle.rebuilding.specs.Sums.{Weights, Values, weighed}
+
+-- room for the k points xs, their product m and its scales ds; the kept fragments lie in an area of the size, in rooms of s bytes
+pub record Ready (size s : ℕ) (xs m ds : List ℕ) : Type 0 where
+  pub boards : Boards size s xs
+  pub short : s ≤ 16388
+  pub some : 0 < length xs
+  pub few : length xs ≤ 64
+  pub product : length m ≡ suc (length xs)
+  pub scales : length ds ≡ length xs
+
+-- b is the block of len rows whose bytes, and whose fragments' bytes, are the kept bytes by their weights
+pub record Made (area : List ℕ) (s : ℕ) (xs m ds : List ℕ) (len : ℕ) (b : List ℕ) : Type 0 where
+  pub size : length b ≡ len * length xs
+  pub small : (p : ℕ) → getD b p 0 < 256
+  pub byte : (ws : List ℕ) (c q : ℕ) → c < len → q < length xs → Weights xs m ds (suc q) ws
+      → weighed area s xs ws c (length xs) ≡ getD b (c * length xs + q) 0
+  pub at : (ws : List ℕ) (c z : ℕ) → c < len → Values xs m ds z ws → weighed area s xs ws c (length xs) ≡ value (row (length xs) b c) z
+
+-- byte p of the block that is encoded afresh, whose message ends before `end`: zeros after the message
+unfoldable pub kept : ℕ → List ℕ → ℕ → ℕ
+kept end b p = pick (ltb p end) (getD b p 0) 0
+
+-- f is a fragment of len bytes: the kept bytes by the weights ws, and v in the last row
+pub record Leaf (area : List ℕ) (s : ℕ) (xs ws : List ℕ) (v len : ℕ) (f : List ℕ) : Type 0 where
+  pub size : length f ≡ len
+  pub rows : (c : ℕ) → c + 1 < len → getD f c 0 ≡ weighed area s xs ws c (length xs)
+  pub last : getD f (len - 1) 0 ≡ v
+
+-- f is fragment z of a block whose rows are those of b, of k bytes, but the last, which is r
+pub record Anew (k len : ℕ) (b r : List ℕ) (z : ℕ) (f : List ℕ) : Type 0 where
+  pub size : length f ≡ len
+  pub rows : (c : ℕ) → c + 1 < len → getD f c 0 ≡ value (row k b c) z
+  pub last : getD f (len - 1) 0 ≡ value r z
+
+-- of the message of n bytes in b, in rows of k bytes, the columns from i on are written, and column i - 1 as far as row c; nothing after it
+pub record Copied (b : List ℕ) (n k i c : ℕ) (old new : List ℕ) : Type 0 where
+  pub columns : (p : ℕ) → p < n → i ≤ (p + 4) % k → getD new p 0 ≡ getD b (p + 4) 0
+  pub rows : (p : ℕ) → p < n → suc ((p + 4) % k) ≡ i → (p + 4) / k < c → getD new p 0 ≡ getD b (p + 4) 0
+  pub after : (p : ℕ) → n ≤ p → getD new p 0 ≡ getD old p 0

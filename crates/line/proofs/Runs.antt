@@ -1,0 +1,40 @@
+-- Induction along a run.
+use Prim.Native.Nat.{ℕ}
+use mathlib.Core.Bool.{Bool, true, false}
+use mathlib.Core.Path.{_≡_, subst, sym}
+use lib.Dec.{T, eqb, eqb→eq, eqb-refl}
+use Rattle.octets.specs.Bytes.{pick}
+use Rattle.line.specs.Run.{Machine, In, Run, fresh, after, state}
+use Rattle.line.proofs.Tests.{pick-true}
+
+module _ (M : Machine) where
+  -- board j's own step
+  pub state-own : (r : Run M) (j : ℕ) (x : In M) → state M (after r j x) j ≡ M .next (state M r j) x
+  unfolding state
+  state-own r j x = pick-true (eqb j j) (M .next (state M r j) x) (state M r j) (eqb-refl j)
+
+  -- one step of the run: board j's own step, or another board's, which leaves j's state
+  pub step-cases : (P : M .State → Type 0) (j : ℕ) (r : Run M) (k : ℕ) (x : In M)
+      → (k ≡ j → P (M .next (state M r j) x)) → P (state M r j) → P (state M (after r k x) j)
+  unfolding state pick
+  step-cases P j r k x own other = go (eqb k j) (eqb→eq k j)
+    where
+      go : (b : Bool) → (T b → k ≡ j) → P (pick b (M .next (state M r j) x) (state M r j))
+      go true e = own (e tt)
+      go false e = other
+
+  -- What holds of the run and of board j's state, from its start on: through a step of its own, and through a step of another board.
+  pub along : (P : Run M → M .State → Type 0) (j : ℕ) → P fresh (M .start j)
+      → ((r : Run M) (x : In M) → P r (state M r j) → P (after r j x) (M .next (state M r j) x))
+      → ((r : Run M) (k : ℕ) (x : In M) → P r (state M r j) → P (after r k x) (state M r j))
+      → (r : Run M) → P r (state M r j)
+  unfolding state
+  along P j p own other fresh = p
+  along P j p own other (after r k x) =
+      let h = along P j p own other r in
+      step-cases (P (after r k x)) j r k x (λ e. subst (λ i. P (after r i x) (M .next (state M r j) x)) (sym e) (own r x h)) (other r k x h)
+
+  -- What a step keeps, a run's next step keeps.
+  pub stays : (P : M .State → Type 0) (j : ℕ) (r : Run M) (k : ℕ) (x : In M)
+      → (P (state M r j) → P (M .next (state M r j) x)) → P (state M r j) → P (state M (after r k x) j)
+  stays P j r k x f p = step-cases P j r k x (λ e. f p) p

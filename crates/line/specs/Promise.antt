@@ -1,0 +1,25 @@
+-- What a broadcast promises of a run: agreement, validity and totality.
+use Prim.Native.Nat.{ℕ}
+use mathlib.Core.Bool.{Bool}
+use mathlib.Core.Path.{_≡_}
+use mathlib.Core.Logic.{_⊎_}
+use lib.Dec.{T}
+use Rattle.line.specs.Boards.{Board}
+use Rattle.line.specs.Run.{Machine, Run, Delivered, Over}
+
+-- the records of sender S, one for each of the n boards
+-- (document 01: "A rule-keeping sender puts out its n send records for one message of at most L bytes")
+abbrev pub Mail : {Rec : Type 0} → ℕ → ℕ → (ℕ → Rec) → ℕ → ℕ → Rec → Type 0
+Mail n S mail i j ρ = (i ≡ S) × Board n j × (ρ ≡ mail j)
+
+-- Demand 3 of the run r of a broadcast by board S. mail and result are what S puts out and what is to be delivered, if S keeps the rules;
+-- Unless is what else may have happened: two different strings hashed in the run have one hash value, or, without hashes, nothing.
+pub record Promise (M : Machine) (n : ℕ) (keeps : ℕ → Bool) (S : ℕ) (mail : ℕ → M .Rec) (result : M .Result) (Unless : Type 0) (r : Run M) : Type 0 where
+  -- agreement: no two rule-keeping boards deliver different results
+  pub agree : (i j : ℕ) (d e : M .Result) → T (keeps i) → T (keeps j) → Delivered M i d r → Delivered M j e r → (d ≡ e) ⊎ Unless
+  -- validity: under a rule-keeping sender no rule-keeping board delivers anything but the sender's message
+  pub valid : (i : ℕ) (d : M .Result) → T (keeps S) → T (keeps i) → Delivered M i d r → (d ≡ result) ⊎ Unless
+  -- totality: if every record between rule-keeping boards has been handed over, and one of them has delivered or the sender keeps
+  -- the rules, all of them have delivered
+  pub total : Over M keeps (Mail n S mail) r → ((i : ℕ) × (d : M .Result) × T (keeps i) × Delivered M i d r) ⊎ T (keeps S)
+      → (j : ℕ) → T (keeps j) → (d : M .Result) × Delivered M j d r

@@ -1,0 +1,6 @@
+-- Laws of the definitions, for the crates above.
+pub mod KindByte
+pub mod Facts
+pub mod Writes
+pub mod Round
+pub mod PartLaws

@@ -1,0 +1,2 @@
+-- What the contracts of `record` cite.
+pub mod Form

@@ -1,0 +1,8 @@
+-- Laws of the sender's record.
+pub mod OctetLaws
+pub mod RecordLaws
+pub mod Rooms
+pub mod Levels
+pub mod Records
+pub mod Taken
+pub mod Sends

@@ -1,0 +1,3 @@
+-- What the contracts of `sending` cite.
+pub mod Sent
+pub mod Laying

@@ -1,0 +1,167 @@
+// The sender's record for a board. Fragment after fragment is worked out in the room that the record's own fragment has in `out`.
+use boards::Table;
+ghost use mathlib.Core.Path.{_≡_};
+ghost use mathlib.Core.List.{List};
+ghost use Prim.Native.Nat.{ℕ, _+_, _*_, _≤_, _<_};
+ghost use lib.ListN.{length};
+ghost use Rattle.octets.specs.Bytes.{part, put};
+ghost use Rattle.sha256.specs.Sha256.{sha256};
+ghost use Rattle.tree.specs.Tree.{treeOf, depth, rootOf, pathOf, flat, climb};
+ghost use Rattle.tree.specs.Check.{nodeOf};
+ghost use Rattle.record.specs.Form.{recordOf};
+ghost use Rattle.sending.specs.Sent.{sendRefusal, sendOut, sendOf};
+ghost use Rattle.sending.specs.Laying.{fragments, Room, Alike, Laid};
+
+// An answer: the refusal's number, or 0; and the record's length.
+#[repr(C)]
+pub struct Sent {
+    pub number: u32,
+    pub length: u32,
+}
+
+// The root of c fragments, from that of board a + 1 on, each worked out in turn. waiting is room to work in.
+fn run_in(
+    message: &[u8],
+    k: usize,
+    a: usize,
+    c: usize,
+    out: &mut [u8],
+    at: usize,
+    len: usize,
+    waiting: &mut [u8],
+) -> [u8; 32]
+    requires { ⌜ Room k (now message) at len (now out) × (0 < c) × (a + c ≤ 64) × (192 ≤ length (now waiting)) ⌝ }
+    ensures { λ r. ⌜ (r ≡ rootOf c (λ j. fragments k (now (message .entry)) (a + j))) × Alike at len (now (out .exit)) (now (out .entry)) ⌝ }
+{
+    let mut x = [0u8; 32];
+    let mut j = 0;
+    while j < c {
+        encoding::put_fragment(message, k, a + j, out, at);
+        let y = tree::raised(waiting, tree::leaf_part(out, at, len), j, c);
+        x = y;
+        j += 1;
+    }
+    x
+}
+
+// The root of c fragments, from that of board a + 1 on.
+fn run_root(
+    message: &[u8],
+    k: usize,
+    a: usize,
+    c: usize,
+    out: &mut [u8],
+    at: usize,
+    len: usize,
+) -> [u8; 32]
+    requires { ⌜ Room k (now message) at len (now out) × (0 < c) × (a + c ≤ 64) ⌝ }
+    ensures { λ r. ⌜ (r ≡ rootOf c (λ j. fragments k (now (message .entry)) (a + j))) × Alike at len (now (out .exit)) (now (out .entry)) ⌝ }
+{
+    let mut waiting = [0u8; 192];
+    run_in(message, k, a, c, out, at, len, &mut waiting)
+}
+
+// The path of board i + 1 a level further: the root of the fragments beside it, if there are any.
+fn put_node(
+    message: &[u8],
+    n: usize,
+    k: usize,
+    i: usize,
+    d: usize,
+    out: &mut [u8],
+    at: usize,
+    len: usize,
+)
+    requires { ⌜ Room k (now message) at len (now out) × (n ≤ 64) × (i < n) × (d < 6) × (at ≡ 39 + 32 * depth (treeOf n) i) ⌝ }
+    ensures { λ _. ⌜ ((old : List ℕ) → Laid n (fragments k (now (message .entry))) i d at len old (now (out .entry)) → Laid n (fragments k (now (message .entry))) i (d + 1) at len old (now (out .exit))) ⌝ }
+{
+    if n <= tree::middle_of(i, d) {
+        return;
+    }
+    let a = tree::beside_of(i, d);
+    let c = tree::leaf_count(n, d, a);
+    let x = run_root(message, k, a, c, out, at, len);
+    octets::copy_at(out, 37 + 32 * tree::nodes(n, i, d), &x);
+}
+
+// The path of board i + 1.
+fn put_path(message: &[u8], n: usize, k: usize, i: usize, out: &mut [u8], at: usize, len: usize)
+    requires { ⌜ Room k (now message) at len (now out) × (n ≤ 64) × (i < n) × (at ≡ 39 + 32 * depth (treeOf n) i) ⌝ }
+    ensures { λ _. ⌜ Alike at len (now (out .exit)) (put 37 (flat (pathOf n (fragments k (now (message .entry))) i)) (now (out .entry))) ⌝ }
+{
+    let mut d = 0;
+    while d < 6 {
+        put_node(message, n, k, i, d, out, at, len);
+        d += 1;
+    }
+}
+
+// The root that the fragment of board i + 1, len bytes, and the path of so many nodes in `out` give.
+fn root_in(out: &[u8], n: usize, i: usize, nodes: usize, len: usize) -> [u8; 32]
+    requires { ⌜ (n ≤ 64) × (i < n) × (nodes ≡ depth (treeOf n) i) × (nodes ≤ 6) × (len ≤ 16388) × (39 + 32 * nodes + len ≤ length (now out)) ⌝ }
+    ensures { λ r. ⌜ r ≡ climb sha256 (nodeOf (part 37 (32 * nodes) (now (out .entry)))) (treeOf n) i (part (39 + 32 * nodes) len (now (out .entry))) ⌝ }
+{
+    let end = 37 + 32 * nodes;
+    tree::taken_up(&out[37..end], n, i, tree::leaf_part(out, end + 2, len))
+}
+
+// The sender's record for board i + 1, at the start of `out`; its length.
+fn put_record(message: &[u8], n: usize, k: usize, i: usize, out: &mut [u8]) -> usize
+    requires { ⌜ (length (now message) ≤ 16384) × (0 < k) × (k ≤ 64) × (n ≤ 64) × (i < n) × (16619 ≤ length (now out)) ⌝ }
+    ensures { λ r. ⌜ (now (out .exit) ≡ put 0 (recordOf 1 (rootOf n (fragments k (now (message .entry)))) (depth (treeOf n) i) (flat (pathOf n (fragments k (now (message .entry))) i)) (fragments k (now (message .entry)) i)) (now (out .entry)))
+        × (r ≡ length (recordOf 1 (rootOf n (fragments k (now (message .entry)))) (depth (treeOf n) i) (flat (pathOf n (fragments k (now (message .entry))) i)) (fragments k (now (message .entry)) i))) × (r ≤ 16619) ⌝ }
+{
+    let len = code::row_count(message.len(), k);
+    let nodes = tree::nodes(n, i, 6);
+    let at = 39 + 32 * nodes;
+    octets::copy_at(out, 0, b"\x01\x00\x20");
+    octets::put_two(out, 35, nodes);
+    octets::put_two(out, 37 + 32 * nodes, len);
+    put_path(message, n, k, i, out, at, len);
+    encoding::put_fragment(message, k, i, out, at);
+    let x = root_in(out, n, i, nodes, len);
+    octets::copy_at(out, 3, &x);
+    at + len
+}
+
+// Why the sender's record is refused, or 0.
+fn send_refusal(b: Table, message: &[u8], to: usize, out: &[u8]) -> u32
+    ensures { λ r. ⌜ r ≡ sendRefusal b (now (message .entry)) to (now (out .entry)) ⌝ }
+{
+    if !boards::in_limits(b) {
+        return 1;
+    }
+    if out.len() < 16619 {
+        return 2;
+    }
+    if to < 1 {
+        return 4;
+    }
+    if b.n < to {
+        return 4;
+    }
+    if b.longest < message.len() {
+        return 13;
+    }
+    0
+}
+
+// The sender's record for board `to`.
+pub fn send(b: Table, message: &[u8], to: usize, out: &mut [u8]) -> Sent
+    ensures { λ r. ⌜ sendOut r (now (out .exit)) ≡ sendOf b (now (message .entry)) to (now (out .entry)) ⌝ }
+{
+    let q = send_refusal(b, message, to, out);
+    if q != 0 {
+        return Sent {
+            number: q,
+            length: 0,
+        };
+    }
+    let n = b.n;
+    let k = boards::fragments_needed(b);
+    let len = put_record(message, n, k, to - 1, out);
+    Sent {
+        number: 0,
+        length: len as u32,
+    }
+}

@@ -1,0 +1,8 @@
+-- Laws of the definitions, for the crates above.
+pub mod OctetLaws
+pub mod Tallies
+pub mod Facts
+pub mod Writes
+pub mod Masks
+pub mod Views
+pub mod First

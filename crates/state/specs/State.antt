@@ -1,0 +1,81 @@
+-- A board's state: what its first 4,608 bytes say (document 01, "The table of boards" and "A board's step"; docs/STATE.md has the layout).
+use Prim.Native.Nat.{ℕ, _+_, _*_}
+use mathlib.Core.List.{List, _∷_, _++_}
+use mathlib.Core.Bool.{Bool, not}
+use lib.ListN.{getD}
+use lib.Dec.{eqb}
+use Rattle.octets.specs.Bytes.{twoAt, eightAt, part, eight}
+use Rattle.octets.specs.Sets.{bit}
+use Rattle.boards.specs.Table.{sMax}
+use Rattle.boards.specs.declared.Table.{Table}
+use Rattle.state.specs.declared.Marks.{Marks}
+
+-- where the length, the echo's root, the vote's root and the fragment kept of board i + 1 lie
+abbrev pub lenAt : ℕ → ℕ
+lenAt i = 40 + 2 * i
+
+abbrev pub echoAt : ℕ → ℕ
+echoAt i = 256 + 32 * i
+
+abbrev pub voteAt : ℕ → ℕ
+voteAt i = 2304 + 32 * i
+
+abbrev pub fragmentAt : ℕ → ℕ → ℕ
+fragmentAt max i = 4608 + i * max
+
+-- a flag is false if its byte is 0 and true otherwise
+abbrev pub flag : List ℕ → ℕ → Bool
+flag s a = not (eqb (getD s a 0) 0)
+
+-- "a state buffer needs 4,608 + n × s_max bytes"
+unfoldable pub stateSize : Table → ℕ
+stateSize b = 4608 + b .n * sMax b
+
+-- "these four are the table"
+unfoldable pub tableOf : List ℕ → Table
+tableOf s = record { n = getD s 0 0; t = getD s 1 0; sender = getD s 2 0; longest = twoAt s 4 }
+
+-- "the own number goes beside it at a start and in a state"
+unfoldable pub ownOf : List ℕ → ℕ
+ownOf s = getD s 3 0
+
+-- four flags; "boards heard are kept as 64-bit sets"
+unfoldable pub marksOf : List ℕ → Marks
+marksOf s = record {
+  acquired = flag s 6;
+  voted = flag s 7;
+  output = flag s 8;
+  done = flag s 9;
+  echoes = eightAt s 10;
+  usable = eightAt s 18;
+  votes = eightAt s 26;
+}
+
+-- the marks as bytes
+unfoldable pub marksBytes : Marks → List ℕ
+marksBytes m =
+    bit (m .acquired) ∷ bit (m .voted) ∷ bit (m .output) ∷ bit (m .done) ∷ (eight (m .echoes) ++ (eight (m .usable) ++ eight (m .votes)))
+
+-- a state: "one echo and one vote are kept from each board"; of board i + 1 the echo's fragment length and root, and the vote's root
+pub record State : Type 0 where
+  pub table : Table
+  pub own : ℕ
+  pub marks : Marks
+  pub len : ℕ → ℕ
+  pub echoRoot : ℕ → List ℕ
+  pub voteRoot : ℕ → List ℕ
+
+-- a table and marks, with what the bytes s keep beside them
+abbrev pub viewOf : Table → Marks → List ℕ → State
+viewOf b m s = record {
+  table = b;
+  own = ownOf s;
+  marks = m;
+  len = λ i. twoAt s (lenAt i);
+  echoRoot = λ i. part (echoAt i) 32 s;
+  voteRoot = λ i. part (voteAt i) 32 s;
+}
+
+-- what the bytes say: every byte pattern says something
+abbrev pub view : List ℕ → State
+view s = viewOf (tableOf s) (marksOf s) s

@@ -1,0 +1,517 @@
+/*
+ * Random runs of whole lines of boards through the C interface.
+ *
+ * Up to t boards break the rules: they send well-formed lies under trees of
+ * their own making, different ones to different boards, other boards'
+ * records, cut, grown and damaged ones, and random bytes. Records are lost,
+ * repeated and handed over in any order. After every step the receiver's
+ * state must be sound, by the reference's check of its bytes, and nothing
+ * but what the step may write may be written. The boards that keep the rules
+ * must agree; deliver nothing but the message of a sender that keeps them;
+ * and once all records between them have been handed over, all have
+ * delivered if one of them has or if the sender keeps the rules.
+ *
+ * Arguments: the number of runs, a seed; -v to name each test.
+ */
+
+#include <stdio.h>
+#include <stdlib.h>
+#include <string.h>
+#include "harness.h"
+#include "reference/reference.h"
+#include "trees.h"
+#include "tumbeliko.h"
+
+typedef ref_table table;
+
+enum { SEND = 1, ECHO = 2, VOTE = 3 };
+enum { NONE = 0, MESSAGE = 1, VOID = 2 };
+enum { OUTPUT = 8, DONE = 9 };  /* where a state has these flags */
+
+#define BOARDS      64
+#define LONGEST     1000
+#define STATE       (REF_STATE_HEAD + 3 * (LONGEST + 4) + BOARDS)
+#define BEYOND      64          /* bytes after a state that must stay */
+#define GROVE       4
+#define RUNS        20000
+#define PROGRESS    2500
+
+/* ---- what is counted */
+
+static unsigned long runs_wanted = RUNS, runs, steps, messages, voids, silent, refusals[16], accepted[4];
+
+/* ---- one run */
+
+static table b;
+static uint64_t liars;
+static uint8_t message[LONGEST];
+static size_t message_len;
+static tree trees[GROVE];       /* the message's first, then others */
+static bool wrong;              /* something in this run was not as it must be */
+
+typedef struct {
+    uint8_t state[STATE + BEYOND];
+    size_t needed, len;                 /* bytes of the state, and those lent */
+    uint32_t put_out, outcome, length;
+    uint8_t delivered[LONGEST];
+} member;
+
+static member line[BOARDS];
+
+/* A record. It is genuine if a board that keeps the rules put it out for
+ * that receiver. The first `waiting` of those posted are on their way. */
+typedef struct {
+    uint32_t from, to;
+    const uint8_t *bytes;
+    size_t len;
+    bool genuine, handed;
+} letter;
+
+static letter post[60000];
+static uint8_t written[4000000];
+static size_t posted, waiting, written_len;
+
+static bool lies(uint32_t board)
+{
+    return liars >> (board - 1) & 1;
+}
+
+/* A fact about this run. */
+static bool held(bool fact)
+{
+    wrong = wrong || !fact;
+    return fact;
+}
+
+/* Keeps the bytes of a record for this run; NULL if there is no more room. */
+static const uint8_t *keep(const uint8_t *bytes, size_t len)
+{
+    uint8_t *to = written + written_len;
+
+    if (len > sizeof written - written_len)
+        return NULL;
+    if (len > 0)
+        memcpy(to, bytes, len);
+    written_len += len;
+    return to;
+}
+
+static void hand_in(uint32_t from, uint32_t to, const uint8_t *bytes, size_t len, bool genuine)
+{
+    letter one = { from, to, bytes, len, genuine, false };
+
+    if (bytes == NULL || posted == sizeof post / sizeof *post || lies(to))
+        return;
+    post[posted++] = post[waiting];
+    post[waiting++] = one;
+}
+
+/* ---- what a step must leave */
+
+static uint8_t was_out[REF_OUT], was_delivery[LONGEST];
+
+static void note_delivery(uint32_t own, tumbeliko_stepped did, const uint8_t *bytes)
+{
+    member *m = &line[own - 1];
+
+    CHECK(held(m->outcome == NONE));                    /* a board delivers once */
+    m->outcome = did.delivery;
+    m->length = did.message_length <= b.longest ? did.message_length : 0;
+    memcpy(m->delivered, bytes, m->length);
+    if (did.delivery == MESSAGE)
+        messages++;
+    else
+        voids++;
+    CHECK(held(did.delivery == MESSAGE || did.delivery == VOID));
+    CHECK(held(did.message_length <= b.longest && (did.delivery == MESSAGE || did.message_length == 0)));
+    for (uint32_t i = 1; i <= b.n; i++)                 /* agreement */
+        if (!lies(i) && line[i - 1].outcome != NONE)
+            CHECK(held(line[i - 1].outcome == m->outcome && line[i - 1].length == m->length
+                       && memcmp(line[i - 1].delivered, m->delivered, m->length) == 0));
+    if (!lies(b.sender))                                /* validity */
+        CHECK(held(m->outcome == MESSAGE && m->length == message_len
+                   && memcmp(m->delivered, message, message_len) == 0));
+}
+
+/* Hands the record over, and hands in what the receiver puts out. */
+static void take(letter one)
+{
+    static uint8_t before[STATE + BEYOND];
+    static ref_board board;
+    member *m = &line[one.to - 1];
+    tumbeliko_stepped did;
+    uint8_t *record, *out, *delivery;
+
+    memcpy(before, m->state, m->needed + BEYOND);
+    record = lend(0, one.bytes, one.len);
+    out = lend(1, was_out, REF_OUT);
+    delivery = lend(2, was_delivery, b.longest);
+    did = tumbeliko_step(m->state, m->len, one.from, record, one.len, out, REF_OUT, delivery, b.longest);
+    steps++;
+    CHECK(held(did.number == 0 || (did.number >= 5 && did.number <= 9)));
+    refusals[did.number & 15]++;
+    CHECK(held(memcmp(m->state + m->needed, before + m->needed, BEYOND) == 0));
+    CHECK(held(holds(0, one.bytes)));
+    CHECK(held(did.record_length <= REF_OUT && did.message_length <= b.longest));
+    if (did.record_length > REF_OUT || did.message_length > b.longest)
+        return;
+    CHECK(held(memcmp(out + did.record_length, was_out + did.record_length, REF_OUT - did.record_length) == 0));
+    CHECK(held(memcmp(delivery + did.message_length, was_delivery + did.message_length,
+                      b.longest - did.message_length) == 0));
+    ref_decode(m->state, m->needed, &board);
+    CHECK(held(ref_sound(&board)));
+    if (one.genuine) {
+        bool late = before[DONE] != 0 || (one.bytes[0] == SEND && before[OUTPUT] != 0);
+
+        CHECK(held(did.number == (late ? 8u : one.handed ? 9u : 0u)));
+    }
+    if (did.number != 0) {
+        CHECK(held(did.record_length == 0 && did.delivery == NONE && did.message_length == 0));
+        CHECK(held(memcmp(m->state, before, m->needed) == 0));
+        return;
+    }
+    accepted[one.bytes[0] & 3]++;
+    if (did.record_length > 0) {
+        const uint8_t *bytes = keep(out, did.record_length);
+
+        CHECK(held(ref_read_record(out, did.record_length).number == 0 && (out[0] == ECHO || out[0] == VOTE)));
+        CHECK(held(!(m->put_out >> (out[0] & 3) & 1))); /* one echo and one vote at most */
+        if (!(m->put_out >> (out[0] & 3) & 1))
+            for (uint32_t to = 1; to <= b.n; to++)
+                hand_in(one.to, to, bytes, did.record_length, true);
+        m->put_out |= 1u << (out[0] & 3);
+    }
+    if (did.delivery != NONE)
+        note_delivery(one.to, did, delivery);
+}
+
+/* ---- those who break the rules */
+
+static uint32_t told[BOARDS];   /* which tree a board is told of, mostly */
+
+static void lie(uint32_t from)
+{
+    static uint8_t record[REF_OUT + 50], other[REF_OUT];
+    uint32_t to = 1 + random_below(b.n), which = random_below(8) ? told[to - 1] : random_below(GROVE);
+    const letter *old = &post[posted == 0 ? 0 : random_below((uint32_t)posted)];
+    size_t len = 0;
+
+    switch (random_below(posted == 0 ? 7 : 11)) {
+    case 0:
+    case 1:
+        len = tree_record(&trees[which], VOTE, from, record);
+        break;
+    case 2:
+        len = tree_record(&trees[which], ECHO, from, record);
+        break;
+    case 3:                                     /* an echo that is not usable */
+        len = tree_record(&trees[which], ECHO, random_below(2) ? from : 1 + random_below(b.n), record);
+        record[len - 1] ^= 0x11;
+        break;
+    case 4:
+        len = tree_record(&trees[which], SEND, to, record);
+        break;
+    case 5:
+        len = random_below(90);
+        random_bytes(record, len);
+        break;
+    case 6:                                     /* a fragment above s_max */
+        len = 1 + ref_s_max(b) + random_below(20);
+        random_bytes(other, 32 + len);
+        len = ref_write_record(random_below(2) ? ECHO : SEND, trees[which].root, 32, other, 32, other + 32, len,
+                               record, REF_OUT).length;
+        break;
+    case 7:
+    case 8:                                     /* what some board said, in its own name */
+        len = old->len;
+        memcpy(record, old->bytes, len);
+        break;
+    case 9:                                     /* the same, damaged */
+        len = old->len;
+        memcpy(record, old->bytes, len);
+        if (len > 0)
+            flip_a_bit(record, len);
+        break;
+    case 10:                                    /* the same, cut or grown */
+        len = old->len;
+        memcpy(record, old->bytes, len);
+        if (random_below(2))
+            len = random_below((uint32_t)len + 1);
+        else
+            random_bytes(record + len, 40), len += random_below(40);
+        break;
+    }
+    hand_in(from, to, keep(record, len), len, false);
+}
+
+static uint32_t some_liar(void)
+{
+    uint32_t board;
+
+    do
+        board = 1 + random_below(b.n);
+    while (!lies(board));
+    return board;
+}
+
+/* What the sender puts out. One that breaks the rules tells all the same
+ * lie, or tells each board what told[] says, or leaves boards out. */
+static void send_all(void)
+{
+    static uint8_t record[REF_OUT];
+    uint32_t all = 1 + random_below(GROVE - 1), manner = random_below(6);
+
+    for (uint32_t to = 1; to <= b.n; to++) {
+        size_t len;
+
+        if (!lies(b.sender)) {
+            tumbeliko_sized sent = tumbeliko_send(b.n, b.t, b.sender, b.longest, message, message_len, to,
+                                                  record, REF_OUT);
+
+            CHECK(held(sent.number == 0 && sent.length <= REF_OUT));
+            len = sent.length <= REF_OUT ? sent.length : 0;
+        } else {
+            if (manner < 3)
+                told[to - 1] = all;
+            if (manner == 5 && random_below(3) == 0)
+                continue;
+            len = tree_record(&trees[told[to - 1]], SEND, to, record);
+        }
+        hand_in(b.sender, to, keep(record, len), len, !lies(b.sender));
+    }
+}
+
+static void grow_trees(void)
+{
+    bool two = random_below(2);
+
+    grow_tree(&trees[0], b, MESSAGE_TREE, message, message_len);
+    for (int i = 1; i < GROVE && b.t > 0; i++) {
+        uint8_t other[40];
+        size_t len = random_below((b.longest < 40 ? b.longest : 40) + 1);
+
+        random_bytes(other, len);
+        grow_tree(&trees[i], b, (int)random_below(TREE_MANNERS), other, len);
+    }
+    for (uint32_t i = 0; i < b.n; i++)
+        told[i] = random_below(3) ? 0 : random_below(two ? 2 : GROVE);
+}
+
+/* ---- the run */
+
+/* Hands over what is waiting, in any order, until nothing waits. While
+ * records may be lost, those of a kind or to a board are lost more often. */
+static void hand_over(bool losing, uint32_t chatter)
+{
+    uint32_t kind = random_below(6), starved = random_below(2 * b.n), loss = losing ? random_below(40) : 0;
+
+    while (waiting > 0) {
+        size_t pick = random_below((uint32_t)waiting);
+        letter one = post[pick];
+        bool often = losing && (one.to == starved || (one.len > 0 && one.bytes[0] == kind));
+        bool lost = random_below(100) < (often ? 80 : loss);
+
+        waiting--;
+        post[pick] = post[waiting];
+        post[waiting] = one;
+        if (!lost) {
+            post[waiting].handed = true;
+            take(one);
+        }
+        if (random_below(8) == 0 && posted > waiting) {         /* once more */
+            one = post[waiting + random_below((uint32_t)(posted - waiting))];
+            if (one.handed)
+                take(one);
+        }
+        if (liars != 0 && chatter > 0 && random_below(3) == 0) {
+            lie(some_liar());
+            chatter--;
+        }
+    }
+}
+
+/* Puts the genuine records that were lost on their way again. */
+static void send_lost_again(void)
+{
+    for (size_t i = waiting; i < posted; i++)
+        if (post[i].genuine && !post[i].handed) {
+            letter one = post[i];
+
+            post[i] = post[waiting];
+            post[waiting++] = one;
+        }
+}
+
+static void start_all(void)
+{
+    for (uint32_t i = 1; i <= b.n; i++) {
+        member *m = &line[i - 1];
+
+        m->needed = REF_STATE_HEAD + (size_t)b.n * ref_s_max(b);
+        m->len = m->needed + (random_below(2) ? random_below(BEYOND + 1) : 0);
+        m->put_out = m->outcome = m->length = 0;
+        if (steps % 8 == 0)
+            random_bytes(m->state, m->needed + BEYOND);         /* else over what the last run left */
+        CHECK(held(tumbeliko_start(b.n, b.t, b.sender, b.longest, i, m->state, m->len) == 0));
+    }
+}
+
+static void draw_liars(void)
+{
+    uint32_t count = random_below(8) ? b.t : random_below(b.t + 1);
+
+    liars = 0;
+    if (count > 0 && random_below(2))
+        liars = (uint64_t)1 << (b.sender - 1), count--;
+    while (count > 0) {
+        uint64_t bit = (uint64_t)1 << random_below(b.n);
+
+        count -= (liars & bit) == 0;
+        liars |= bit;
+    }
+}
+
+static void one_run(uint32_t n, uint32_t t)
+{
+    uint32_t first = 0;
+
+    wrong = false;
+    posted = waiting = written_len = 0;
+    b.n = n;
+    b.t = t;
+    b.sender = 1 + random_below(n);
+    b.longest = random_below(10) ? random_below(40) : random_below(8) ? 0 : random_below(LONGEST + 1);
+    message_len = random_below(b.longest + 1);
+    random_bytes(message, message_len);
+    draw_liars();
+    grow_trees();
+    start_all();
+    send_all();
+    for (uint32_t i = 1; i <= n; i++)
+        for (uint32_t j = 0; lies(i) && j < n; j++)
+            lie(i);
+    hand_over(true, t * 6 + random_below(t * n + 1));
+    send_lost_again();
+    hand_over(false, t * 4);
+    for (uint32_t i = n; i > 0; i--)
+        if (!lies(i) && line[i - 1].outcome != NONE)
+            first = i;
+    silent += first == 0;
+    for (uint32_t i = 1; i <= n; i++)                           /* totality */
+        if (!lies(i) && (first != 0 || !lies(b.sender)))
+            CHECK(held(line[i - 1].outcome != NONE));
+    runs++;
+}
+
+/* So many in 10,000 of all runs with this table, one at least. */
+static void runs_of(uint32_t n, uint32_t t, unsigned long share)
+{
+    unsigned long count = runs_wanted * share / 10000, shown = 0;
+
+    random_bytes(was_out, sizeof was_out);
+    random_bytes(was_delivery, sizeof was_delivery);
+    for (unsigned long i = 0; i < count || i == 0; i++) {
+        place(i % 2 ? BEFORE_PAGE : AFTER_PAGE);
+        one_run(n, t);
+        if (wrong && shown++ < 3)
+            printf("run %lu of n %u, t %u: sender %u, longest %u, message of %zu bytes, liars %016llx\n",
+                   i, n, t, b.sender, b.longest, message_len, (unsigned long long)liars);
+        if (runs % PROGRESS == 0) {
+            printf("%8lu runs, %lu steps\n", runs, steps);
+            fflush(stdout);
+        }
+    }
+}
+
+#define LINE(n, t, share) static void a_line_of_##n##_boards_with_##t##_that_lie(void) { runs_of(n, t, share); }
+
+LINE(1, 0, 300)
+LINE(2, 0, 300)
+LINE(3, 0, 300)
+LINE(4, 0, 300)
+LINE(4, 1, 4000)
+LINE(5, 1, 1500)
+LINE(6, 1, 700)
+LINE(7, 1, 300)
+LINE(7, 2, 1200)
+LINE(8, 2, 400)
+LINE(9, 2, 200)
+LINE(10, 3, 250)
+LINE(11, 3, 80)
+LINE(12, 3, 70)
+LINE(13, 0, 20)
+LINE(13, 4, 80)
+LINE(64, 0, 1)
+LINE(64, 21, 2)
+
+static void messages_voids_and_refusals_5_to_9_were_seen(void)
+{
+    static const char *const kinds[] = { "", "sends", "echoes", "votes" };
+
+    printf("%lu runs, %lu steps, %lu messages and %lu voids delivered, %lu runs in which nobody delivered\n",
+           runs, steps, messages, voids, silent);
+    printf("accepted:");
+    for (int kind = SEND; kind <= VOTE; kind++)
+        printf(" %lu %s%s", accepted[kind], kinds[kind], kind < VOTE ? "," : "\nrefused:");
+    for (int number = 1; number < 16; number++)
+        if (refusals[number] > 0)
+            printf(" %lu with %d%s", refusals[number], number, number < 9 ? "," : "\n");
+    CHECK(messages > 0);
+    if (runs_wanted < RUNS / 10)
+        return;
+    CHECK(voids > 0 && silent > 0);
+    for (int number = 5; number <= 9; number++)
+        CHECK(refusals[number] > 0);
+}
+
+static const test small_tests[] = {
+    TEST(a_line_of_1_boards_with_0_that_lie), TEST(a_line_of_2_boards_with_0_that_lie),
+    TEST(a_line_of_3_boards_with_0_that_lie), TEST(a_line_of_4_boards_with_0_that_lie),
+    TEST(a_line_of_4_boards_with_1_that_lie),
+};
+
+static const test middle_tests[] = {
+    TEST(a_line_of_5_boards_with_1_that_lie), TEST(a_line_of_6_boards_with_1_that_lie),
+    TEST(a_line_of_7_boards_with_1_that_lie), TEST(a_line_of_7_boards_with_2_that_lie),
+};
+
+static const test large_tests[] = {
+    TEST(a_line_of_8_boards_with_2_that_lie), TEST(a_line_of_9_boards_with_2_that_lie),
+    TEST(a_line_of_10_boards_with_3_that_lie), TEST(a_line_of_11_boards_with_3_that_lie),
+    TEST(a_line_of_12_boards_with_3_that_lie), TEST(a_line_of_13_boards_with_0_that_lie),
+    TEST(a_line_of_13_boards_with_4_that_lie),
+};
+
+static const test full_tests[] = {
+    TEST(a_line_of_64_boards_with_0_that_lie), TEST(a_line_of_64_boards_with_21_that_lie),
+};
+
+static const test seen_tests[] = {
+    TEST(messages_voids_and_refusals_5_to_9_were_seen),
+};
+
+int main(int argc, char **argv)
+{
+    static const group groups[] = {
+        GROUP("n 1 to 4", small_tests), GROUP("n 5 to 7", middle_tests), GROUP("n 8 to 13", large_tests),
+        GROUP("n 64", full_tests), GROUP("what was seen", seen_tests),
+    };
+    char *kept[8];
+    int count = 0;
+    bool taken = false;
+
+    for (int i = 0; i < argc && count < 8; i++)
+        if (i > 0 && !taken && argv[i][0] != '-') {     /* the first number is that of the runs */
+            char *end;
+
+            runs_wanted = strtoul(argv[i], &end, 10);
+            taken = true;
+            if (end == argv[i] || *end != 0 || runs_wanted == 0) {
+                fprintf(stderr, "usage: %s [-v] [runs [seed]]\n", argv[0]);
+                return 2;
+            }
+        } else {
+            kept[count++] = argv[i];
+        }
+    return run_groups(groups, sizeof groups / sizeof *groups, count, kept);
+}
