@@ -1,6 +1,7 @@
 #!/bin/sh
 # All tests, one after the other: the prover's gate, then the programs in C over the static library.
 # Each part ends with a line 'N passed, M failed'; a part that ends without one counts as one failure.
+# What a part says of its progress is shown as it goes, all of it is kept in build/NAME.log.
 # The last line sums them up; the exit status is 0 only if nothing failed.
 set -u
 cd "$(dirname "$0")/.." || exit 1
@@ -13,8 +14,11 @@ part() {
     name=$1
     shift
     echo "== $name"
-    "$@" > "build/$name.log" 2>&1
-    status=$?
+    {
+        "$@" 2>&1
+        echo $? > "build/$name.status"
+    } | tee "build/$name.log" | grep --line-buffered -E '^rt: |^building |^n [0-9]| tests ' | sed -u -e 's/^\(.\{110\}\).*/\1/' -e 's/^/   /'
+    status=$(cat "build/$name.status")
     last=$(tail -n 1 "build/$name.log")
     case $last in
         *[0-9]' passed, '[0-9]*' failed')

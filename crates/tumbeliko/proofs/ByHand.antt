@@ -6,8 +6,11 @@ use mathlib.Core.List.{List, [], _∷_}
 use Prim.Native.Nat.{ℕ, zero, suc, _*_, _<_, _≤_}
 use native.Mathlib.Omega.{arith}
 use lib.Count.{ones, onesIn}
+use lib.ListN.{length}
 use Rattle.octets.specs.Bytes.{pick, part, tab, fourAt}
 use Rattle.octets.specs.Sets.{has}
+use Rattle.record.specs.Form.{recordOf}
+use Rattle.record.proofs.Round.{vote-length}
 use Rattle.boards.specs.Table.{limits, kOf, mostOf, someOf}
 use Rattle.tree.specs.Tree.{doubled, half, tree, treeOf, depth}
 use Rattle.field.specs.Field.{add, double, times, mul, power}
@@ -47,6 +50,8 @@ pub record ByHand : Type 0 where
   pub refused : (message area root paths : List ℕ) → encodeRefusal (tableFrom 3 1 1 16) message area root paths ≡ 1
   -- n 5: path lengths 3, 3, 3, 3, 1
   pub path-lengths : (depth (treeOf 5) 0 ≡ 3) × (depth (treeOf 5) 1 ≡ 3) × (depth (treeOf 5) 2 ≡ 3) × (depth (treeOf 5) 3 ≡ 3) × (depth (treeOf 5) 4 ≡ 1)
+  -- a vote record has 39 bytes
+  pub vote-bytes : (root : List ℕ) → length root ≡ 32 → length (recordOf 3 root 0 [] []) ≡ 39
   -- k 2, L 16, block 00 00 00 03 41 00: refused 12
   pub unreadable : readable 2 16 (0 ∷ 0 ∷ 0 ∷ 3 ∷ 0x41 ∷ 0 ∷ []) ≡ false
   -- block 00 00 00 01 41 07 reads as 41
@@ -82,6 +87,7 @@ by-hand = record {
   quorums = (refl, refl, refl, refl, refl, refl, refl, refl, refl);
   refused = λ message area root paths. refl;
   path-lengths = (refl, refl, refl, refl, refl);
+  vote-bytes = vote-length;
   unreadable = refl;
   reads = (refl, refl);
 }
