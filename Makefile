@@ -35,7 +35,7 @@ KNOWN = $(if $(call have,openssl/sha.h,-lcrypto),-DHAVE_OPENSSL -lcrypto) \
         $(if $(call have,isa-l/erasure_code.h,-lisal),-DHAVE_ISAL -lisal)
 
 .PHONY: help test lib demo line-demo bench stack soak clean tools
-.PHONY: library-test header-test reference-test vectors-test ground-test board-test line-test
+.PHONY: library-test header-test reference-test vectors-test ground-test board-test line-test examples-test
 
 help:
 	@echo "make test     everything: the prover's gate, then the tests in C against the library"
@@ -46,7 +46,8 @@ help:
 	@echo "make soak     whole lines of boards for MINUTES=10, each time with a new seed"
 	@echo "make clean    remove build/ and target/"
 	@echo
-	@echo "one part of the tests: library-test header-test reference-test vectors-test ground-test board-test line-test"
+	@echo "one part of the tests: library-test header-test reference-test vectors-test ground-test"
+	@echo "                       board-test line-test examples-test"
 	@echo "SEED=number   other random bytes for the tests in C"
 	@echo "RUNS=number   how many runs of lines; 20,000 if not given"
 	@echo "LIB=path      another archive"
@@ -129,6 +130,13 @@ board-test: build/board-test
 
 line-test: build/line-test
 	@$(RUN) build/line-test $(or $(RUNS),20000) $(SEED)
+
+# The example programs run to their end, and the line's three promises hold in what they print.
+examples-test: build/demo build/line-demo
+	@$(RUN) build/demo > build/demo.log
+	@$(RUN) build/line-demo --seed 1 > build/line-demo.log
+	@[ $$(grep -c ' held$$' build/line-demo.log) -eq 3 ]
+	@echo "1 passed, 0 failed"
 
 # A new seed each time; stops at the first failure, and says which seed it was.
 soak: build/line-test
