@@ -15,7 +15,6 @@ ifeq ($(origin LIB),file)
 CC      = x86_64-linux-gnu-gcc
 RUN     = qemu-x86_64-static
 LINK    = -static
-NOTE    = ; echo "(under an emulator: these times say nothing)"
 TOOLS   = tools
 endif
 endif
@@ -89,9 +88,27 @@ build/line-test: tests/line.c $(TREES) $(HARNESS) $(REFERENCE) $(HEADERS) $(LIB)
 	@echo "building $@ with $(LIB)"
 	@$(BUILD) tests/line.c $(TREES) $(HARNESS) $(REFERENCE) $(LIB) $(LDFLAGS) -o $@
 
-build/bench: bench/bench.c bench/plain.c $(REFERENCE) $(HEADERS) $(LIB) | build $(TOOLS)
+ifeq ($(TOOLS),)
+build/bench: bench/bench.c bench/plain.c $(REFERENCE) $(HEADERS) $(LIB) | build
 	@echo "building $@ with $(LIB), and known libraries: $(or $(filter -l%,$(KNOWN)),none)"
 	@$(BUILD) $(filter -D%,$(KNOWN)) bench/bench.c bench/plain.c $(REFERENCE) $(LIB) $(LDFLAGS) $(filter -l%,$(KNOWN)) -o $@
+else
+# The emulator's times say nothing, so it counts instructions. ISA-L has no archive, so the bench is linked dynamically.
+FETCHED = build/known/usr/lib/x86_64-linux-gnu
+
+build/known/done: bench/known.sh | build tools
+	@echo "fetching the known libraries for x86-64"
+	@sh bench/known.sh build/known > build/known.log 2>&1 || { tail -n 20 build/known.log; exit 1; }
+
+build/count.so: bench/count.c | build
+	@gcc -O2 -Wall -Wextra -fPIC -shared -fvisibility=hidden bench/count.c -o $@
+
+build/bench: bench/bench.c bench/plain.c $(REFERENCE) $(HEADERS) $(LIB) build/known/done build/count.so
+	@echo "building $@ with $(LIB), OpenSSL, BearSSL and ISA-L"
+	@$(CC) $(CFLAGS) $(CPPFLAGS) -Iinclude -Itests -isystem build/known/usr/include -isystem build/known/usr/include/x86_64-linux-gnu \
+	    -DHAVE_OPENSSL -DHAVE_BEARSSL -DHAVE_ISAL bench/bench.c bench/plain.c $(REFERENCE) $(LIB) $(LDFLAGS) \
+	    -L$(FETCHED) -l:libcrypto.so.3 -l:libbearssl.a -l:libisal.so.2 -o $@
+endif
 
 build/stack: bench/stack.c $(HEADERS) $(LIB) | build $(TOOLS)
 	@echo "building $@ with $(LIB)"
@@ -150,9 +167,16 @@ soak: build/line-test
 	done; \
 	echo "$$times passed, 0 failed"
 
+ifeq ($(TOOLS),)
 bench: build/bench stack
 	@echo "times, the best of many"
-	@$(RUN) build/bench$(NOTE)
+	@build/bench
+else
+bench: build/bench stack
+	@echo "no x86-64 here: instructions executed, counted by the emulator"
+	@COUNT_FILE=build/counts qemu-x86_64 -cpu max -L /usr/x86_64-linux-gnu -E LD_LIBRARY_PATH=$(FETCHED) \
+	    -plugin build/count.so,to=build/counts build/bench
+endif
 
 stack: build/stack
 	@echo "stack of each call, painted"

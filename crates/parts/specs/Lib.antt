@@ -1,0 +1,2 @@
+-- The fragment broadcast's hash, tree, code and records: ours, of one table.
+pub mod Parts

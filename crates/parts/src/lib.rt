@@ -1,0 +1,1 @@
+// Nothing runs here: this crate joins definitions and laws.
