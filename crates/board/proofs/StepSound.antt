@@ -31,7 +31,7 @@ use Rattle.board.proofs.KeptLaws.{kept-length, kept-table}
 use Rattle.board.proofs.Stays.{echo-sounds, vote-sounds, send-sounds}
 
 -- the sets of a sound state have 64 bits
-fit : (b : Table) (m : Marks) (s : List ℕ) → Sounds (viewOf b m s) → Fit m
+pub fit : (b : Table) (m : Marks) (s : List ℕ) → Sounds (viewOf b m s) → Fit m
 fit b m s f =
     let few = within b (f .lim) .few in
     record {

@@ -1,0 +1,12 @@
+-- A board's step is figure 5's. To be read: Begins, Overdue (its last theorems), StepIsFigure (its last), NeverBoth.
+pub mod Counts
+pub mod Firing
+pub mod Seen
+pub mod Begins
+pub mod Overdue
+pub mod Results
+pub mod Received
+pub mod Reaching
+pub mod Words
+pub mod StepIsFigure
+pub mod NeverBoth

@@ -1,0 +1,3 @@
+-- Figure 5, and what it says of a board's bytes. To be read: Figure, then Shown.
+pub mod Figure
+pub mod Shown
