@@ -32,7 +32,7 @@ bit-not : (a : Bool) → bit a + bit (not a) ≡ 1
 bit-not true = refl
 bit-not false = refl
 
-top : {n : ℕ} → Board (suc n) (suc n)
+pub top : {n : ℕ} → Board (suc n) (suc n)
 top = record { low = omega arith; high = omega arith }
 
 pub up : {n i : ℕ} → Board n i → Board (suc n) i

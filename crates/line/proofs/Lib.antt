@@ -14,4 +14,6 @@ pub mod Plain
 pub mod Simples
 pub mod Notices
 pub mod Projected
+pub mod Rounds
+pub mod FourBoards
 pub mod Examples

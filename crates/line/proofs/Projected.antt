@@ -9,6 +9,7 @@ use Rattle.octets.specs.Bytes.{pick}
 use Rattle.line.specs.Run.{Machine, In, hand, Run, fresh, after, state, Took, Put, Delivered, Genuine, Fair, Over}
 use Rattle.line.specs.Promise.{Mail, Promise}
 use Rattle.line.specs.Project.{extend, project}
+use Rattle.line.proofs.Runs.{last-put, no-put}
 
 -- What one step of B must meet to be one of M, or none.
 pub record Carries (B M : Machine) (sees : B .State → In B → Option (In M)) : Type 1 where
@@ -101,17 +102,10 @@ module _ {B M : Machine} {sees : B .State → In B → Option (In M)} (A : Carri
             (d, subst (λ i. Delivered B j d (after r i x)) (sym kj) (Delivered.now a), b))
       ]
 
-  last-put : {i j k : ℕ} {ρ : M .Rec} {q : Run M} {y : In M} → Put M i j ρ (after q k y) → Put M i j ρ q ⊎ ((k ≡ i) × (M .puts (state M q i) y j ≡ some ρ))
-  last-put (Put.now g) = inr (refl, g)
-  last-put (Put.then p) = inl p
-
-  no-put : {i j : ℕ} {ρ : M .Rec} → Put M i j ρ fresh → ⊥
-  no-put p = elim p [ ]
-
   -- what is put out in the broadcast's run was put out in the larger one
   pub put-back : (r : Run B) (i k : ℕ) (ρ : M .Rec) → Put M i k ρ (project B M sees r) → (β : B .Rec) × Put B i k β r × (A .of β ≡ some ρ)
   unfolding project
-  put-back fresh i k ρ = λ p. absurd (no-put p)
+  put-back fresh i k ρ = λ p. absurd (no-put M p)
   put-back (after r j x) i k ρ = go (sees (state B r j) x) refl (put-back r i k ρ)
     where
       Back : Run B → Type 0
@@ -119,7 +113,7 @@ module _ {B M : Machine} {sees : B .State → In B → Option (In M)} (A : Carri
 
       go : (o : Option (In M)) → sees (state B r j) x ≡ o → (Put M i k ρ (project B M sees r) → Back r) → Put M i k ρ (extend B M sees (project B M sees r) j o) → Back (after r j x)
       go none q ih p = let (β, a, b) = ih p in (β, Put.then a, b)
-      go (some y) q ih p = elim (last-put p) [
+      go (some y) q ih p = elim (last-put M p) [
         | inl p ↦ (let (β, a, b) = ih p in (β, Put.then a, b))
         | inr (ji, g) ↦ (
             let (β, a, b) = A .put-back (shows r i) x y k ρ (subst (λ m. sees (state B r m) x ≡ some y) ji q) g in

@@ -1,10 +1,12 @@
 -- Induction along a run.
 use Prim.Native.Nat.{ℕ}
 use mathlib.Core.Bool.{Bool, true, false}
-use mathlib.Core.Path.{_≡_, subst, sym}
+use mathlib.Core.Path.{_≡_, refl, subst, sym}
+use mathlib.Core.Logic.{_⊎_, inl, inr}
+use mathlib.Core.Option.{some}
 use lib.Dec.{T, eqb, eqb→eq, eqb-refl}
 use Rattle.octets.specs.Bytes.{pick}
-use Rattle.line.specs.Run.{Machine, In, Run, fresh, after, state}
+use Rattle.line.specs.Run.{Machine, In, Run, fresh, after, state, Put}
 use Rattle.line.proofs.Tests.{pick-true}
 
 module _ (M : Machine) where
@@ -38,3 +40,11 @@ module _ (M : Machine) where
   pub stays : (P : M .State → Type 0) (j : ℕ) (r : Run M) (k : ℕ) (x : In M)
       → (P (state M r j) → P (M .next (state M r j) x)) → P (state M r j) → P (state M (after r k x) j)
   stays P j r k x f p = step-cases P j r k x (λ e. f p) p
+
+  -- what was put out: in the last step, or before it
+  pub last-put : {i j k : ℕ} {ρ : M .Rec} {r : Run M} {x : In M} → Put M i j ρ (after r k x) → Put M i j ρ r ⊎ ((k ≡ i) × (M .puts (state M r i) x j ≡ some ρ))
+  last-put (Put.now e) = inr (refl, e)
+  last-put (Put.then p) = inl p
+
+  pub no-put : {i j : ℕ} {ρ : M .Rec} → Put M i j ρ fresh → ⊥
+  no-put p = elim p [ ]

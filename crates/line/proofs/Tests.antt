@@ -22,6 +22,10 @@ right true true s = tt
 right true false s = s
 right false b s = absurd s
 
+pub is-true : (b : Bool) → T b → b ≡ true
+is-true true h = refl
+is-true false h = absurd h
+
 pub truth : (b : Bool) → T b ⊎ T (not b)
 truth true = inl tt
 truth false = inr tt

@@ -11,7 +11,7 @@ use Rattle.octets.specs.Bytes.{pick}
 use Rattle.line.specs.Boards.{count, Keepers}
 use Rattle.line.specs.Run.{Machine, hand, Run, fresh, after, state, Delivered, Fair}
 use Rattle.line.specs.Promise.{Mail, Promise}
-use Rattle.line.specs.Core.{Word, dueBy}
+use Rattle.line.specs.Core.{Word, naming, dueBy}
 use Rattle.spread.specs.Code.{Code}
 use Rattle.spread.specs.Step.{Record, send, echo, vote, Line, enoughBy, usableFor, board, mail}
 use Rattle.spread.specs.Hashed.{hashes, Collision}
@@ -106,3 +106,8 @@ other-root = refl
 first-echo : usableFor (line 4 1) (state (boards 4 1) (after (after fresh 1 (hand 2 (echo 7 tt 7))) 1 (hand 2 (echo 8 tt 8))) 1) 7 2 ≡ true
 unfolding state pick count dueBy enoughBy
 first-echo = refl
+
+-- board 2 votes for the root 7, and then for 8: only the first is kept
+first-vote : naming eqb (state (boards 4 1) (after (after fresh 1 (hand 2 (vote 7))) 1 (hand 2 (vote 8))) 1 .core) Word.vote 7 2 ≡ true
+unfolding state pick count dueBy enoughBy
+first-vote = refl

@@ -2,6 +2,8 @@
 pub mod Bases
 pub mod Pieces
 pub mod Steps
+pub mod Spreads
+pub mod Delivers
 pub mod Promises
 pub mod Hashes
 pub mod Examples

@@ -195,16 +195,17 @@ module _ {n t : ℕ} {C : Code} {B : Line n t C} (A : LineLaws B) where
       go a (taken k b (echo r π f) ex e kn h) q = same-move Word.echo k r b ex (π, f, e, left (B .short f) _ h) (right (not (s .done)) _ (right (B .short f) _ h)) q
       go a (taken k b (vote r) ex e kn h) q = same-move Word.vote k r b ex e (right (not (s .done)) _ h) q
 
+  -- a record that is accepted is taken
+  pub took : (s : State B) (i : ℕ) (b : B .Bytes) (ρ : Rec B) → Board n i → B .read b ≡ some ρ → T (accepts B s i ρ) → act B s (hand i b) ≡ take i ρ
+  took s i b ρ bd e h = ap (actOn B s i) e ∙ pick-true (known n i && accepts B s i ρ) (take i ρ) refuse (both (known n i) (accepts B s i ρ) (is-known bd) h)
+
   pub hear-in : (s : State B) (i : ℕ) (b : B .Bytes) (w : Word) (v : C .Root) → Board n i → Says w b v → T (not (s .done)) → T (not (s .core .set w i))
       → move B s (act B s (hand i b)) ≡ hear w i v
   hear-in s i b w v bd = go w
     where
-      took : (ρ : Rec B) → B .read b ≡ some ρ → T (accepts B s i ρ) → act B s (hand i b) ≡ take i ρ
-      took ρ e h = ap (actOn B s i) e ∙ pick-true (known n i && accepts B s i ρ) (take i ρ) refuse (both (known n i) (accepts B s i ρ) (is-known bd) h)
-
       go : (w : Word) → Says w b v → T (not (s .done)) → T (not (s .core .set w i)) → move B s (act B s (hand i b)) ≡ hear w i v
-      go Word.echo (π, f, e, sh) nd ns = ap (move B s) (took (echo v π f) e (both (B .short f) (not (s .done) && not (s .core .set Word.echo i)) sh (both (not (s .done)) (not (s .core .set Word.echo i)) nd ns)))
-      go Word.vote e nd ns = ap (move B s) (took (vote v) e (both (not (s .done)) (not (s .core .set Word.vote i)) nd ns))
+      go Word.echo (π, f, e, sh) nd ns = ap (move B s) (took s i b (echo v π f) bd e (both (B .short f) (not (s .done) && not (s .core .set Word.echo i)) sh (both (not (s .done)) (not (s .core .set Word.echo i)) nd ns)))
+      go Word.vote e nd ns = ap (move B s) (took s i b (vote v) bd e (both (not (s .done)) (not (s .core .set Word.vote i)) nd ns))
 
   pub acquire-why : (s : State B) (x : Input ⊥ (B .Bytes)) (o : Option (C .Root)) → move B s (act B s x) ≡ acquire o → T (not (s .core .spoke Word.echo))
   acquire-why s x o = go (act B s x) (why s x)
