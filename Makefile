@@ -23,7 +23,7 @@ CRATES    = crates.txt $(wildcard crates/*/src/*.rt crates/*/specs/*.antt crates
 REFERENCE = tests/reference/hash.c tests/reference/code.c tests/reference/board.c
 HARNESS   = tests/harness.c
 TREES     = tests/trees.c
-HEADERS   = include/tumbeliko.h tests/harness.h tests/trees.h tests/reference/reference.h bench/plain.h
+HEADERS   = include/tumbeliko.h tests/harness.h tests/trees.h tests/reference/reference.h bench/plain.h bench/clock.h
 BUILD     = $(CC) $(CFLAGS) $(CPPFLAGS) -Iinclude -Itests $(LINK)
 
 # Is there a header $(1), and does it link with $(2)?
@@ -33,7 +33,7 @@ KNOWN = $(if $(call have,openssl/sha.h,-lcrypto),-DHAVE_OPENSSL -lcrypto) \
         $(if $(call have,bearssl.h,-lbearssl),-DHAVE_BEARSSL -lbearssl) \
         $(if $(call have,isa-l/erasure_code.h,-lisal),-DHAVE_ISAL -lisal)
 
-.PHONY: help test lib demo line-demo bench stack soak clean tools
+.PHONY: help test lib demo line-demo bench growth stack soak clean tools
 .PHONY: library-test header-test reference-test vectors-test ground-test board-test line-test examples-test
 
 help:
@@ -41,6 +41,7 @@ help:
 	@echo "make demo     a message cut into fragments and rebuilt from some of them; then spread over a line of boards, one of which lies"
 	@echo "make lib      prove the library and write build/libtumbeliko.a"
 	@echo "make bench    times beside plain C and known libraries, and the stack of each call"
+	@echo "make growth   how the cost of a call grows with L and n: tables, and the plot docs/growth.svg"
 	@echo "make stack    the stack of each call alone"
 	@echo "make soak     whole lines of boards for MINUTES=10, each time with a new seed"
 	@echo "make clean    remove build/ and target/"
@@ -89,9 +90,9 @@ build/line-test: tests/line.c $(TREES) $(HARNESS) $(REFERENCE) $(HEADERS) $(LIB)
 	@$(BUILD) tests/line.c $(TREES) $(HARNESS) $(REFERENCE) $(LIB) $(LDFLAGS) -o $@
 
 ifeq ($(TOOLS),)
-build/bench: bench/bench.c bench/plain.c $(REFERENCE) $(HEADERS) $(LIB) | build
+build/bench: bench/bench.c bench/clock.c bench/plain.c $(REFERENCE) $(HEADERS) $(LIB) | build
 	@echo "building $@ with $(LIB), and known libraries: $(or $(filter -l%,$(KNOWN)),none)"
-	@$(BUILD) $(filter -D%,$(KNOWN)) bench/bench.c bench/plain.c $(REFERENCE) $(LIB) $(LDFLAGS) $(filter -l%,$(KNOWN)) -o $@
+	@$(BUILD) $(filter -D%,$(KNOWN)) bench/bench.c bench/clock.c bench/plain.c $(REFERENCE) $(LIB) $(LDFLAGS) $(filter -l%,$(KNOWN)) -o $@
 else
 # The emulator's times say nothing, so it counts instructions. ISA-L has no archive, so the bench is linked dynamically.
 FETCHED = build/known/usr/lib/x86_64-linux-gnu
@@ -103,12 +104,16 @@ build/known/done: bench/known.sh | build tools
 build/count.so: bench/count.c | build
 	@gcc -O2 -Wall -Wextra -fPIC -shared -fvisibility=hidden bench/count.c -o $@
 
-build/bench: bench/bench.c bench/plain.c $(REFERENCE) $(HEADERS) $(LIB) build/known/done build/count.so
+build/bench: bench/bench.c bench/clock.c bench/plain.c $(REFERENCE) $(HEADERS) $(LIB) build/known/done build/count.so
 	@echo "building $@ with $(LIB), OpenSSL, BearSSL and ISA-L"
 	@$(CC) $(CFLAGS) $(CPPFLAGS) -Iinclude -Itests -isystem build/known/usr/include -isystem build/known/usr/include/x86_64-linux-gnu \
-	    -DHAVE_OPENSSL -DHAVE_BEARSSL -DHAVE_ISAL bench/bench.c bench/plain.c $(REFERENCE) $(LIB) $(LDFLAGS) \
+	    -DHAVE_OPENSSL -DHAVE_BEARSSL -DHAVE_ISAL bench/bench.c bench/clock.c bench/plain.c $(REFERENCE) $(LIB) $(LDFLAGS) \
 	    -L$(FETCHED) -l:libcrypto.so.3 -l:libbearssl.a -l:libisal.so.2 -o $@
 endif
+
+build/growth: bench/growth.c bench/clock.c $(HEADERS) $(LIB) | build $(TOOLS)
+	@echo "building $@ with $(LIB)"
+	@$(BUILD) bench/growth.c bench/clock.c $(LIB) $(LDFLAGS) -o $@
 
 build/stack: bench/stack.c $(HEADERS) $(LIB) | build $(TOOLS)
 	@echo "building $@ with $(LIB)"
@@ -176,6 +181,15 @@ bench: build/bench stack
 	@echo "no x86-64 here: instructions executed, counted by the emulator"
 	@COUNT_FILE=build/counts qemu-x86_64 -cpu max -L /usr/x86_64-linux-gnu -E LD_LIBRARY_PATH=$(FETCHED) \
 	    -plugin build/count.so,to=build/counts build/bench
+endif
+
+# Writes the tables to standard output, and the plot.
+ifeq ($(TOOLS),)
+growth: build/growth
+	@build/growth docs/growth.svg
+else
+growth: build/growth build/count.so build/known/done
+	@COUNT_FILE=build/counts qemu-x86_64 -plugin build/count.so,to=build/counts build/growth docs/growth.svg
 endif
 
 stack: build/stack

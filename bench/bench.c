@@ -10,13 +10,11 @@
 
 #define _DEFAULT_SOURCE
 
-#include <fcntl.h>
-#include <sched.h>
 #include <stdio.h>
 #include <stdlib.h>
 #include <string.h>
-#include <time.h>
 #include <unistd.h>
+#include "clock.h"
 #include "plain.h"
 #include "reference/reference.h"
 #include "tumbeliko.h"
@@ -208,54 +206,7 @@ static void isal_rebuild(void)
 }
 #endif
 
-/* ---- times, or instructions where an emulator counts them (COUNT_FILE names the file that bench/count.c writes) */
-
-static int count_file = -1;
-static double counting_costs;
-static const char *unit = "µs";
-
-/* Thousands of instructions executed so far. */
-static double counted(void)
-{
-    char text[32] = "";
-
-    sched_yield();
-    if (pread(count_file, text, sizeof text - 1, 0) < 20) {
-        fprintf(stderr, "bench: COUNT_FILE holds no count\n");
-        exit(1);
-    }
-    return strtod(text, NULL) * 1e-3;
-}
-
-static void begin_counting(const char *file)
-{
-    count_file = open(file, O_RDONLY);
-    if (count_file < 0) {
-        perror(file);
-        exit(1);
-    }
-    unit = "k instructions";
-    counted();                                  /* the first one also binds what it calls */
-    counting_costs = -counted();
-    counting_costs += counted();
-}
-
-static double counted_in(void (*call)(void), int times)
-{
-    double start = counted();
-
-    for (int i = 0; i < times; i++)
-        call();
-    return (counted() - start - counting_costs) / times;
-}
-
-static double now(void)
-{
-    struct timespec time;
-
-    clock_gettime(CLOCK_PROCESS_CPUTIME_ID, &time);
-    return (double)time.tv_sec * 1e6 + (double)time.tv_nsec * 1e-3;
-}
+/* ---- times, or instructions where an emulator counts them */
 
 #define TURN_US 3000
 
@@ -266,29 +217,29 @@ static void best(void (*const calls[3])(void), double us[3])
 {
     long reps[3] = { 0, 0, 0 };
 
-    for (int c = 0; c < 3 && count_file >= 0; c++)
+    for (int c = 0; c < 3 && clock_counts(); c++)
         if (calls[c] != NULL) {                 /* what a first call makes, and keeps, doesn't count */
-            us[c] = counted_in(calls[c], 1);
-            us[c] = counted_in(calls[c], us[c] < 100 ? 100 : 1);
+            us[c] = clock_count(calls[c], 1);
+            us[c] = clock_count(calls[c], us[c] < 100 ? 100 : 1);
         }
-    for (int turn = 0; turn < turns && count_file < 0; turn++)
+    for (int turn = 0; turn < turns && !clock_counts(); turn++)
         for (int c = 0; c < 3; c++) {
             double start, spent;
 
             if (calls[c] == NULL)
                 continue;
             if (reps[c] == 0) {                 /* how many fill a turn */
-                start = now();
+                start = clock_time();
                 do {
                     calls[c]();
                     reps[c]++;
-                } while (now() - start < TURN_US);
-                us[c] = (now() - start) / (double)reps[c];
+                } while (clock_time() - start < TURN_US);
+                us[c] = (clock_time() - start) / (double)reps[c];
             }
-            start = now();
+            start = clock_time();
             for (long r = 0; r < reps[c]; r++)
                 calls[c]();
-            spent = (now() - start) / (double)reps[c];
+            spent = (clock_time() - start) / (double)reps[c];
             if (spent < us[c])
                 us[c] = spent;
         }
@@ -661,7 +612,7 @@ static void board_rows(void)
         fprintf(stderr, "bench: no memory for the boards\n");
         return;
     }
-    printf("\n| call | input | tumbeliko %s | reference %s | ratio |\n|---|---|---:|---:|---:|\n", unit, unit);
+    printf("\n| call | input | tumbeliko %s | reference %s | ratio |\n|---|---|---:|---:|---:|\n", clock_unit(), clock_unit());
     for (int i = 0; i < 2; i++) {
         set_table(tables_of[i][0], tables_of[i][1]);
         begin_board();
@@ -700,20 +651,19 @@ int main(int argc, char **argv)
     for (size_t i = 0; i < sizeof message; i++)
         message[i] = (uint8_t)(i * 13 + i / 239);
     plain_begin();
-    if (getenv("COUNT_FILE") != NULL)
-        begin_counting(getenv("COUNT_FILE"));
+    clock_begin();
     if (switched_off) {
         hash_rows("OpenSSL, no SHA instructions", false);
         board_rows();
         return 0;
     }
-    printf("| call | input | tumbeliko %s | plain C %s | ratio | library %s | ratio |\n", unit, unit, unit);
+    printf("| call | input | tumbeliko %s | plain C %s | ratio | library %s | ratio |\n", clock_unit(), clock_unit(), clock_unit());
     printf("|---|---|---:|---:|---:|---:|---:|\n");
     hash_rows("OpenSSL", true);
     path_row();
     code_rows();
 #ifdef HAVE_OPENSSL
-    if (count_file >= 0) {                      /* the emulator has no SHA instructions to switch off */
+    if (clock_counts()) {                       /* the emulator has no SHA instructions to switch off */
         board_rows();
         return 0;
     }
