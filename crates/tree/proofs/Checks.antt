@@ -6,10 +6,10 @@ use mathlib.Core.Bool.{true, _&&_}
 use mathlib.Core.Logic.{_⊎_, inl, inr}
 use mathlib.Core.List.{List, []}
 use native.Mathlib.Omega.{arith}
-use borrow.Author.Tests.{leb-true, eqb-true}
+use borrow.Author.Tests.{leb-true, eqb-true, eq-eqb}
 use lib.Dec.{leb, eqb}
 use lib.ListN.{length, getD}
-use Rattle.octets.specs.Bytes.{same}
+use Rattle.octets.specs.Bytes.{pick, same}
 use Rattle.octets.proofs.Laws.{length-part}
 use Rattle.octets.proofs.Picks.{and-l, and-r, picks}
 use Rattle.sha256.specs.Sha256.{sha256}
@@ -117,10 +117,11 @@ node-length p d j h lt = length-part (32 * j) 32 p (omega arith)
 -- a correct path under the root of fs has the board's fragment of fs, or two strings hashed have one hash
 pub path-binds : (n i : ℕ) (fs : ℕ → List ℕ) (p f : List ℕ) → pathCorrect n i (rootOf n fs) p f ≡ true
     → (f ≡ fs (i - 1)) ⊎ Collision sha256 (checkStrings n i p f) (treeStrings n fs)
-unfolding rootOf checkStrings treeStrings
+unfolding rootOf checkStrings treeStrings pick
 path-binds n i fs p f e =
     let s = said n i (root sha256 fs (treeOf n)) p f e in
-    elim (bound sha256 sha256-length fs (nodeOf p) (treeOf n) (i - 1) f (λ j lt. node-length p (depth (treeOf n) (i - 1)) j (s .nodes) lt) (s .gives)) [
+    rw (eq-eqb (length p) (32 * depth (treeOf n) (i - 1)) (s .nodes))
+    (elim (bound sha256 sha256-length fs (nodeOf p) (treeOf n) (i - 1) f (λ j lt. node-length p (depth (treeOf n) (i - 1)) j (s .nodes) lt) (s .gives)) [
       | inl q ↦ inl (q ∙ ap fs (leaf-at n (i - 1) (s .boards .1) (omega arith)))
       | inr c ↦ inr c
-    ]
+    ])

@@ -1,8 +1,9 @@
 -- The strings that are hashed, and two of them with one hash.
-use Prim.Native.Nat.{ℕ, _-_}
+use Prim.Native.Nat.{ℕ, _-_, _*_}
 use mathlib.Core.Path.{_≡_}
 use mathlib.Core.List.{List, [], _∷_, _++_, List·Memᴰ}
-use lib.Dec.{ltb}
+use lib.Dec.{ltb, eqb}
+use lib.ListN.{length}
 use Rattle.octets.specs.Bytes.{pick}
 use Rattle.sha256.specs.Sha256.{sha256}
 use Rattle.tree.specs.Tree.{Tree, tip, fork, treeOf, depth, root, climb}
@@ -20,9 +21,10 @@ module _ (H : List ℕ → List ℕ) where
   climbed ps (fork k l r) i f =
       pick (ltb i k) ((1 ∷ (climb H ps l i f ++ ps (depth l i))) ∷ climbed ps l i f) ((1 ∷ (ps (depth r i) ++ climb H ps r i f)) ∷ climbed ps r i f)
 
--- document 01, the strings hashed "in path checks": board i of n, from 1, the path's bytes p, the fragment f
+-- document 01, the strings hashed "in path checks": board i of n, from 1, the path's bytes p, the fragment f; none if the node count is
+-- wrong, for then the check says no before it hashes
 unfoldable pub checkStrings : ℕ → ℕ → List ℕ → List ℕ → List (List ℕ)
-checkStrings n i p f = climbed sha256 (nodeOf p) (treeOf n) (i - 1) f
+checkStrings n i p f = pick (eqb (length p) (32 * depth (treeOf n) (i - 1))) (climbed sha256 (nodeOf p) (treeOf n) (i - 1) f) []
 
 -- document 01, the strings hashed in an "encoding": its n fragments fs 0, fs 1, ..
 unfoldable pub treeStrings : ℕ → (ℕ → List ℕ) → List (List ℕ)

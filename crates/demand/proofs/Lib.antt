@@ -1,0 +1,19 @@
+-- From the bytes of a step to the promise of the line.
+pub mod Shown
+pub mod Settled
+pub mod Marks
+pub mod Acts
+pub mod Nexts
+pub mod Puts
+pub mod Results
+pub mod Gives
+pub mod Hashing
+pub mod Agree
+pub mod Started
+pub mod Carry
+pub mod Reached
+pub mod Strings
+pub mod Demand
+pub mod Void
+pub mod Follows
+pub mod NotEmpty
