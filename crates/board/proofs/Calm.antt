@@ -17,7 +17,7 @@ use Rattle.boards.proofs.Within.{Within}
 use Rattle.state.specs.State.{viewOf, echoAt, voteAt}
 use Rattle.state.specs.Sound.{naming, reaches, waitsAt, waits, quiet}
 use Rattle.state.specs.declared.Marks.{Marks}
-use Rattle.state.proofs.OctetLaws.{some-at, some-find}
+use Rattle.octets.proofs.Members.{some-at, some-find}
 use Rattle.state.proofs.Tallies.{reaches-larger, naming-find}
 use Rattle.board.specs.Stepped.{due, won, enough, votedNow, outputNow, endsNow, ended, settledTo}
 

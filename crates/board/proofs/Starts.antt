@@ -17,7 +17,7 @@ use Rattle.boards.proofs.Within.{within}
 use Rattle.state.specs.State.{State, tableOf, ownOf, marksOf, view, viewOf, flag, lenAt}
 use Rattle.state.specs.Sound.{isBoard, setsOk, flagsOk, usableOk, lengthOk, boardOk, quiet, sound}
 use Rattle.state.specs.declared.Marks.{Marks}
-use Rattle.state.proofs.OctetLaws.{every-all, has-none}
+use Rattle.octets.proofs.Members.{every-all, has-none}
 use Rattle.state.proofs.Tallies.{reaches-few}
 use Rattle.board.specs.Started.{freshBytes}
 

@@ -18,7 +18,7 @@ use Rattle.boards.proofs.Within.{within}
 use Rattle.state.specs.State.{viewOf, lenAt, echoAt, voteAt, fragmentAt}
 use Rattle.state.specs.Sound.{usableOk, lengthOk, boardOk, flagsOk, naming, waits, waitsAt, quiet}
 use Rattle.state.specs.declared.Marks.{Marks}
-use Rattle.state.proofs.OctetLaws.{has-new, has-old, or-below, some-ext}
+use Rattle.octets.proofs.Members.{has-new, has-old, or-below, some-ext}
 use Rattle.state.proofs.Facts.{Sounds}
 use Rattle.state.proofs.First.{naming-ext, reaches-ext}
 use Rattle.state.proofs.Tallies.{naming-other, naming-more, naming-out, reaches-more}

@@ -17,7 +17,7 @@ use Rattle.state.specs.State as Bytes
 use Rattle.state.specs.Sound.{usableOk, lengthOk, boardOk}
 use Rattle.state.specs.declared.Marks.{Marks}
 use Rattle.state.proofs.Facts.{Sounds}
-use Rattle.state.proofs.OctetLaws.{has-low}
+use Rattle.octets.proofs.Members.{has-low}
 use Rattle.board.specs.Stepped.{votedNow, outputNow, endsNow, ended, settledTo}
 use Rattle.line.specs.Core.{Word, setWord}
 use Rattle.line.specs.Core as Core

@@ -14,7 +14,7 @@ use Rattle.state.specs.State.{lenAt, echoAt, voteAt, fragmentAt}
 use Rattle.state.specs.Kept.{member, masked}
 use Rattle.state.specs.Sound.{naming}
 use Rattle.state.specs.declared.Marks.{Marks}
-use Rattle.state.proofs.OctetLaws.{setOf-ext}
+use Rattle.octets.proofs.Members.{setOf-ext}
 use Rattle.board.specs.Stepped as Bytes
 use Rattle.line.specs.Boards.{count}
 use Rattle.line.specs.Core.{Word, Core}

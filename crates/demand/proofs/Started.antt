@@ -11,7 +11,7 @@ use Rattle.state.specs.Kept.{member, masked}
 use Rattle.state.specs.State.{marksOf}
 use Rattle.state.specs.Sound.{isBoard}
 use Rattle.state.specs.declared.Marks.{Marks}
-use Rattle.state.proofs.OctetLaws.{has-none}
+use Rattle.octets.proofs.Members.{has-none}
 use Rattle.board.specs.Started.{freshBytes}
 use Rattle.board.proofs.Starts.{unmarked, start-marks}
 use Rattle.line.specs.Core.{Word}

@@ -14,7 +14,7 @@ use Rattle.boards.specs.Table.{limits, sMax}
 use Rattle.boards.specs.declared.Table.{Table}
 use Rattle.state.specs.State.{stateSize}
 use Rattle.state.specs.Sound.{isBoard}
-use Rattle.state.proofs.OctetLaws.{has-none}
+use Rattle.octets.proofs.Members.{has-none}
 use Rattle.board.specs.Started.{begun, freshBytes, startOf}
 use Rattle.board.proofs.Starts.{unmarked, start-table, start-marks}
 use Rattle.figure.specs.Figure.{begins}

@@ -15,7 +15,7 @@ use Rattle.octets.proofs.Picks.{and-r}
 use Rattle.boards.specs.Table.{mostOf}
 use Rattle.boards.specs.declared.Table.{Table}
 use Rattle.boards.proofs.Within.{Within}
-use Rattle.state.proofs.OctetLaws.{setOf-ext, ones-bit, ones-mono}
+use Rattle.octets.proofs.Members.{setOf-ext, ones-bit, ones-mono}
 use Rattle.figure.specs.Figure.{echo, vote, Piece, Echo, Figure, correct, first, noted, receive, parties, echoFor, usableFor, voteFor, echoing, usables, voting}
 
 pub never : {X : Type 0} → _≡_ {A = Bool} false true → X

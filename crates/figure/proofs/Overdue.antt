@@ -18,7 +18,7 @@ use Rattle.boards.proofs.Within.{Within, within}
 use Rattle.state.specs.State.{State, view, viewOf, tableOf, ownOf, marksOf, echoAt, voteAt}
 use Rattle.state.specs.Sound.{naming, reaches, waitsAt, waits, quiet, sound, flagsOk}
 use Rattle.state.specs.declared.Marks.{Marks}
-use Rattle.state.proofs.OctetLaws.{some-at, some-find}
+use Rattle.octets.proofs.Members.{some-at, some-find}
 use Rattle.state.proofs.Facts.{Sounds, sounds}
 use Rattle.state.proofs.Tallies.{naming-find}
 use Rattle.figure.specs.Figure.{Figure, echoing, usables, voting, At, acquires, votes-by-echoes, votes-by-votes, opens, delivers, Still}

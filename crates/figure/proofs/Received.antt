@@ -18,7 +18,7 @@ use Rattle.boards.proofs.Within.{within}
 use Rattle.state.specs.State.{viewOf, tableOf, marksBytes, lenAt, echoAt, voteAt, fragmentAt}
 use Rattle.state.specs.Sound.{usableOk, lengthOk, boardOk}
 use Rattle.state.specs.declared.Marks.{Marks}
-use Rattle.state.proofs.OctetLaws.{has-new, has-old, has-low}
+use Rattle.octets.proofs.Members.{has-new, has-old, has-low}
 use Rattle.state.proofs.Facts.{Sounds}
 use Rattle.state.proofs.Writes.{Fit, table-kept, rest-kept, fragment-kept, marks-back}
 use Rattle.state.proofs.Views.{vote-new, vote-old, vote-echoes, vote-len, vote-fragment, echo-new, echo-old, echo-votes, fragment-new, fragment-old}

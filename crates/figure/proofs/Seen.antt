@@ -14,7 +14,7 @@ use Rattle.boards.proofs.Within.{within}
 use Rattle.state.specs.State.{viewOf, echoAt, voteAt}
 use Rattle.state.specs.Sound.{usableOk, lengthOk, boardOk, naming}
 use Rattle.state.specs.declared.Marks.{Marks}
-use Rattle.state.proofs.OctetLaws.{setOf-ext}
+use Rattle.octets.proofs.Members.{setOf-ext}
 use Rattle.state.proofs.Facts.{Sounds}
 use Rattle.figure.specs.Figure.{parties, echoFor, usableFor, voteFor, echoing, usables, voting}
 use Rattle.figure.specs.Shown.{echoIn, voteIn, figureIn}

@@ -1,7 +1,6 @@
 -- From one step of a board to the promise of every run.
 pub mod Tests
 pub mod Counts
-pub mod OctetLaws
 pub mod Sets
 pub mod Named
 pub mod Runs

@@ -11,7 +11,7 @@ use lib.Count.{ones, ones-step}
 use lib.Arith.{lt-one}
 use Rattle.octets.specs.Sets.{bit, has, setOf}
 use Rattle.line.specs.Boards.{count}
-use Rattle.line.proofs.OctetLaws.{has-half, has-lowest, ones-bit}
+use Rattle.octets.proofs.Members.{has-half, has-lowest, ones-bit}
 
 -- counted from the lowest board
 count-low : (p : ℕ → Bool) (n : ℕ) → count p (suc n) ≡ bit (p 1) + count (λ i. p (suc i)) n

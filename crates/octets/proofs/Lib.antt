@@ -9,3 +9,5 @@ pub mod Walk
 pub mod Tables
 pub mod Places
 pub mod SetLaws
+pub mod Members
+pub mod Puts

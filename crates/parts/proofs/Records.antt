@@ -16,7 +16,7 @@ use Rattle.record.specs.Form.{parse, isKind, nodesMost, fragmentOk, recordOf, p
 use Rattle.record.specs.declared.Read.{Read}
 use Rattle.record.specs.declared.Read.the-variants.{Form, Fault}
 use Rattle.record.proofs.PartLaws.{known, kind-few, parts-read, parts-pass}
-use Rattle.sending.proofs.RecordLaws.{record-root, record-path, record-fragment}
+use Rattle.record.proofs.Sections.{record-root, record-path, record-fragment}
 use Rattle.line.proofs.Tests.{off, never}
 use Rattle.spread.specs.Step.{send, echo, vote}
 use Rattle.parts.specs.Parts.{bytes, Rec, ofKind, readOf, readRecord}

@@ -15,7 +15,7 @@ use Rattle.octets.specs.Sets.{has}
 use Rattle.octets.proofs.SetLaws.{setOf-lt}
 use Rattle.boards.specs.Table.{kOf}
 use Rattle.boards.specs.declared.Table.{Table}
-use Rattle.state.proofs.OctetLaws.{has-setOf}
+use Rattle.octets.proofs.Members.{has-setOf}
 use Rattle.code.specs.Code.{All, Byte}
 use Rattle.code.specs.Block.{readable, messageIn}
 use Rattle.code.proofs.Lists.{all-of, all-append, getD-map}

@@ -4,3 +4,4 @@ pub mod Facts
 pub mod Writes
 pub mod Round
 pub mod PartLaws
+pub mod Sections

@@ -1,6 +1,4 @@
 -- Laws of the sender's record.
-pub mod OctetLaws
-pub mod RecordLaws
 pub mod Rooms
 pub mod Levels
 pub mod Records

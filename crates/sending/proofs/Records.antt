@@ -17,8 +17,8 @@ use Rattle.tree.proofs.Checks.{root-length, path-length, own-climb}
 use Rattle.record.specs.Form.{recordOf}
 use Rattle.record.proofs.Writes.{written}
 use Rattle.sending.specs.Laying.{Alike}
-use Rattle.sending.proofs.OctetLaws.{part-put}
-use Rattle.sending.proofs.RecordLaws.{record-length}
+use Rattle.octets.proofs.Puts.{part-put}
+use Rattle.record.proofs.Sections.{record-length}
 
 -- the counts, the path and the fragment first, the root last
 sorted : (p : ℕ) (root path frag o : List ℕ) → length root ≡ 32 → length path ≡ 32 * p

@@ -12,7 +12,7 @@ use Rattle.tree.specs.Tree.{rootOf}
 use Rattle.tree.specs.Levels.{Waiting, Raised}
 use Rattle.tree.proofs.Rising.{waiting-first}
 use Rattle.sending.specs.Laying.{Room, Alike}
-use Rattle.sending.proofs.OctetLaws.{put-over}
+use Rattle.octets.proofs.Puts.{put-over}
 
 pub alike-start : (at len : ℕ) (s : List ℕ) → Alike at len s s
 alike-start at len s = record { same = λ f h. refl }

@@ -26,7 +26,7 @@ use Rattle.record.specs.declared.Read.the-variants.{Form}
 use Rattle.record.proofs.Round.{read-back}
 use Rattle.sending.specs.Sent.{sendRecord, SendOut, sendOut, sendOf}
 use Rattle.sending.specs.declared.Sent.{Sent}
-use Rattle.sending.proofs.RecordLaws.{record-length, record-root, record-path, record-fragment}
+use Rattle.record.proofs.Sections.{record-length, record-root, record-path, record-fragment}
 
 -- a send of so many path nodes and fragment bytes reads back as one
 send-reads : (p : ℕ) (root path frag : List ℕ) → length root ≡ 32 → p ≤ 6 → length path ≡ 32 * p → 1 ≤ length frag → length frag ≤ 16388

@@ -12,7 +12,7 @@ use Rattle.boards.specs.Table.{limits}
 use Rattle.boards.specs.declared.Table.{Table}
 use Rattle.state.specs.State.{State}
 use Rattle.state.specs.Sound.{isBoard, setsOk, flagsOk, boardOk, quiet, sound}
-use Rattle.state.proofs.OctetLaws.{every-all, below-lt, lt-below}
+use Rattle.octets.proofs.Members.{every-all, below-lt, lt-below}
 
 -- a board's number is from 1 to n
 pub board-number : (b : Table) (i : ℕ) → isBoard b i ≡ true → (1 ≤ i) × (i ≤ b .n)

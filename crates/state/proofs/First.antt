@@ -15,7 +15,7 @@ use Rattle.boards.proofs.Within.{within}
 use Rattle.state.specs.State.{tableOf, ownOf, marksOf, view, viewOf, flag, lenAt, echoAt, voteAt}
 use Rattle.state.specs.Sound.{usableOk, lengthOk, boardOk, naming, reaches, waitsAt, waits, quiet, sound}
 use Rattle.state.specs.declared.Marks.{Marks}
-use Rattle.state.proofs.OctetLaws.{setOf-ext, every-ext, some-ext, two-ext, eight-ext, part-ext}
+use Rattle.octets.proofs.Members.{setOf-ext, every-ext, some-ext, two-ext, eight-ext, part-ext}
 
 -- roots that agree below n
 module _ (n set : ℕ) (f g : ℕ → List ℕ) (roots : (i : ℕ) → i < n → f i ≡ g i) where

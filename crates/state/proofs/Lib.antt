@@ -1,5 +1,4 @@
 -- Laws of the definitions, for the crates above.
-pub mod OctetLaws
 pub mod Tallies
 pub mod Facts
 pub mod Writes

@@ -10,7 +10,7 @@ use lib.Bits.{bitOr}
 use Rattle.octets.specs.Bytes.{pick}
 use Rattle.octets.specs.Sets.{has}
 use Rattle.state.specs.Kept.{member, masked}
-use Rattle.state.proofs.OctetLaws.{has-add, has-low}
+use Rattle.octets.proofs.Members.{has-add, has-low}
 
 holds : (b : Bool) → T b → b ≡ true
 holds true t = refl

@@ -14,7 +14,7 @@ use Rattle.octets.specs.Sets.{has}
 use Rattle.octets.proofs.Sames.{same-equal}
 use Rattle.octets.proofs.Picks.{and-l, and-r}
 use Rattle.state.specs.Sound.{naming, reaches}
-use Rattle.state.proofs.OctetLaws.{some-none, some-not, setOf-ext, ones-within, ones-mono, ones-find, has-old}
+use Rattle.octets.proofs.Members.{some-none, some-not, setOf-ext, ones-within, ones-mono, ones-find, has-old}
 
 -- no more boards of a set name a root than the set has
 pub naming-few : (n set : ℕ) (root : ℕ → List ℕ) (r : List ℕ) → ones (naming n set root r) ≤ ones set

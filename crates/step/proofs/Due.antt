@@ -20,7 +20,7 @@ use Rattle.boards.proofs.Within.{within}
 use Rattle.state.specs.State.{stateSize, echoAt}
 use Rattle.state.specs.Sound.{naming}
 use Rattle.state.specs.declared.Marks.{Marks}
-use Rattle.state.proofs.OctetLaws.{has-setOf}
+use Rattle.octets.proofs.Members.{has-setOf}
 use Rattle.board.specs.Stepped.{rootOf, enough}
 use Rattle.delivery.specs.Delivered.{resultOf, leftBy}
 use Rattle.step.specs.Asked.{Deliverable}

@@ -9,7 +9,7 @@ use Rattle.sha256.specs.Sha256.{sha256}
 use Rattle.tree.specs.Tree.{leafHash}
 use Rattle.code.proofs.Blocks.{length-fragment}
 use Rattle.sending.specs.Laying.{fragments, Alike}
-use Rattle.sending.proofs.OctetLaws.{part-put}
+use Rattle.octets.proofs.Puts.{part-put}
 use Rattle.sending.proofs.Rooms.{Risen, alike-start, alike-next, risen-start, risen-next}
 use Rattle.sending.proofs.run_in.Statement.{statement}
 use Rattle.sending.proofs.run_in.Tie as tie

@@ -1,4 +1,5 @@
--- General laws: bytes and tests that agree on a run; how many boards are in a set, and what one more adds.
+-- Laws of tests over a run of numbers and of sets of boards: bytes and tests that agree, how many boards are in a set, what one more adds.
+-- Assumes nothing.
 use mathlib.Core.Path.{_≡_, refl, sym, ap, _∙_}
 use Prim.Native.Nat.{ℕ, zero, suc, _+_, _*_, _/_, _%_, _^_, _≤_, _<_}
 use mathlib.Core.Bool.{Bool, true, false, _||_}
@@ -158,13 +159,13 @@ ones-find P a (suc m) h =
     (λ e. ones-find P (a + 1) m (omega (arith, ones-bit (P a) (setOf P (a + 1) m), ap bit e)))
 
 -- the digits above the lowest are those of the half
-has-half : (s i : ℕ) → has s (suc i) ≡ has (s / 2) i
+pub has-half : (s i : ℕ) → has s (suc i) ≡ has (s / 2) i
 unfolding has
 has-half s i = ap (λ x. eqb (x % 2) 1) (ap (λ k. s / 2 ^ k) (sym (one-add i)) ∙ sym (shr-shr s 1 i))
 
-lowest : (s : ℕ) → has s 0 ≡ eqb (s % 2) 1
+pub has-lowest : (s : ℕ) → has s 0 ≡ eqb (s % 2) 1
 unfolding has
-lowest s = ap (λ x. eqb (x % 2) 1) (div-one s)
+has-lowest s = ap (λ x. eqb (x % 2) 1) (div-one s)
 
 digit : (b : Bool) (x : ℕ) → eqb ((bit b + 2 * x) % 2) 1 ≡ b
 digit true x = eq-eqb ((1 + 2 * x) % 2) 1 (omega arith)
@@ -180,7 +181,7 @@ unfolding setOf
 has-setOf P a zero i h = absurd (omega arith)
 has-setOf P a (suc m) zero h =
     let e : a ≡ a + 0 = omega arith in
-    lowest (bit (P a) + 2 * setOf P (a + 1) m) ∙ digit (P a) (setOf P (a + 1) m) ∙ ap P e
+    has-lowest (bit (P a) + 2 * setOf P (a + 1) m) ∙ digit (P a) (setOf P (a + 1) m) ∙ ap P e
 has-setOf P a (suc m) (suc i) h =
     let e : a + 1 + i ≡ a + suc i = omega arith in
     has-half (bit (P a) + 2 * setOf P (a + 1) m) i ∙ ap (λ x. has x i) (digits-after (P a) (setOf P (a + 1) m)) ∙ has-setOf P (a + 1) m i (omega arith) ∙ ap P e
@@ -202,8 +203,8 @@ two-digits (suc (suc x)) y h k = absurd (omega arith)
 -- the or of two sets is their union
 pub has-or : (a b i : ℕ) → has (bitOr a b) i ≡ (has a i || has b i)
 has-or a b zero =
-    lowest (bitOr a b) ∙ ap (λ x. eqb x 1) (or-mod a b 1) ∙ two-digits (a % 2) (b % 2) (mod-lt a (zero-lt-suc 1)) (mod-lt b (zero-lt-suc 1))
-    ∙ ap (λ x. x || eqb (b % 2) 1) (sym (lowest a)) ∙ ap (λ x. has a 0 || x) (sym (lowest b))
+    has-lowest (bitOr a b) ∙ ap (λ x. eqb x 1) (or-mod a b 1) ∙ two-digits (a % 2) (b % 2) (mod-lt a (zero-lt-suc 1)) (mod-lt b (zero-lt-suc 1))
+    ∙ ap (λ x. x || eqb (b % 2) 1) (sym (has-lowest a)) ∙ ap (λ x. has a 0 || x) (sym (has-lowest b))
 has-or a b (suc i) =
     has-half (bitOr a b) i ∙ ap (λ x. has x i) (or-shr a b 1) ∙ has-or (a / 2) (b / 2) i
     ∙ ap (λ x. x || has (b / 2) i) (sym (has-half a i)) ∙ ap (λ x. has a (suc i) || x) (sym (has-half b i))
@@ -213,7 +214,7 @@ pub has-one : (k i : ℕ) → has (2 ^ k) i ≡ eqb i k
 unfolding has
 has-one zero zero = refl
 has-one zero (suc i) = has-half 1 i ∙ has-none i ∙ sym (eqb·suc-zero i)
-has-one (suc k) zero = lowest (2 ^ suc k) ∙ ap (λ x. eqb x 1) (ap (λ x. x % 2) (sym (one-mul (2 ^ suc k))) ∙ shifted-even 1 k) ∙ sym (eqb·zero-suc k)
+has-one (suc k) zero = has-lowest (2 ^ suc k) ∙ ap (λ x. eqb x 1) (ap (λ x. x % 2) (sym (one-mul (2 ^ suc k))) ∙ shifted-even 1 k) ∙ sym (eqb·zero-suc k)
 has-one (suc k) (suc i) =
     has-half (2 ^ suc k) i ∙ ap (λ x. has x i) (ap (λ x. x / 2) (sym (one-mul (2 ^ suc k))) ∙ shifted-half 1 k ∙ one-mul (2 ^ k))
     ∙ has-one k i ∙ sym (eqb·suc-suc i k)

@@ -1,4 +1,4 @@
--- Laws of `octets`' definitions that the sender's record needs.
+-- What is put over something, and read back.
 -- Assumes nothing.
 use mathlib.Core.Path.{_≡_, refl, ap, _∙_, subst}
 use mathlib.Core.List.{List, [], _∷_}
