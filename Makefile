@@ -6,6 +6,7 @@ CFLAGS  = -std=c99 -Wall -Wextra -Wconversion -Werror -O2
 LIB     = build/libtumbeliko.a
 SEED    =
 RUNS    =
+FILE    = README.md
 MINUTES = 10
 
 # The archive is for x86-64 Linux. Elsewhere its users are built by a cross compiler and run by an emulator
@@ -23,6 +24,9 @@ CRATES    = crates.txt $(wildcard crates/*/src/*.rt crates/*/specs/*.antt crates
 REFERENCE = tests/reference/hash.c tests/reference/code.c tests/reference/board.c
 HARNESS   = tests/harness.c
 TREES     = tests/trees.c
+LINE      = $(wildcard examples/line/*.c examples/line/*.h)
+FUZZ      = fuzz/fuzz.c fuzz/drawn.c fuzz/ground.c fuzz/board.c $(wildcard fuzz/drill.c)
+DRILLED   = $(if $(wildcard fuzz/drill.c),-DWITH_DRILL)
 HEADERS   = include/tumbeliko.h tests/harness.h tests/trees.h tests/reference/reference.h bench/plain.h bench/clock.h
 BUILD     = $(CC) $(CFLAGS) $(CPPFLAGS) -Iinclude -Itests $(LINK)
 
@@ -33,17 +37,19 @@ KNOWN = $(if $(call have,openssl/sha.h,-lcrypto),-DHAVE_OPENSSL -lcrypto) \
         $(if $(call have,bearssl.h,-lbearssl),-DHAVE_BEARSSL -lbearssl) \
         $(if $(call have,isa-l/erasure_code.h,-lisal),-DHAVE_ISAL -lisal)
 
-.PHONY: help test lib demo line-demo bench growth stack soak clean tools
+.PHONY: help test lib demo line-demo bench growth stack soak fuzz clean tools
 .PHONY: library-test header-test reference-test vectors-test ground-test board-test line-test examples-test
 
 help:
 	@echo "make test     everything: the prover's gate, then the tests in C against the library"
-	@echo "make demo     a message cut into fragments and rebuilt from some of them; then spread over a line of boards, one of which lies"
+	@echo "make demo     a message cut into fragments and rebuilt; then a file spread over a line of boards while the sender fails, and"
+	@echo "              again while it lies; a picture of each run in build/. FILE=path spreads another file"
 	@echo "make lib      prove the library and write build/libtumbeliko.a"
 	@echo "make bench    times beside plain C and known libraries, and the stack of each call"
 	@echo "make growth   how the cost of a call grows with L and n: tables, and the plot docs/growth.svg"
 	@echo "make stack    the stack of each call alone"
 	@echo "make soak     whole lines of boards for MINUTES=10, each time with a new seed"
+	@echo "make fuzz     the calls on bytes that a coverage-guided fuzzer finds, for MINUTES=10"
 	@echo "make clean    remove build/ and target/"
 	@echo
 	@echo "one part of the tests: library-test header-test reference-test vectors-test ground-test"
@@ -115,6 +121,23 @@ build/growth: bench/growth.c bench/clock.c $(HEADERS) $(LIB) | build $(TOOLS)
 	@echo "building $@ with $(LIB)"
 	@$(BUILD) bench/growth.c bench/clock.c $(LIB) $(LDFLAGS) -o $@
 
+# The search runs on this machine; the library is in it where it can be, and in the replay always.
+build/fuzz/find: fuzz/find.c $(FUZZ) fuzz/fuzz.h $(TREES) $(REFERENCE) $(HEADERS) $(if $(TOOLS),,$(LIB)) | build
+	@sh fuzz/tools.sh > /dev/null
+	@echo "building $@"
+	@mkdir -p build/fuzz
+	@clang -std=c99 -Wall -Wextra -Werror -O2 -g -fsanitize=fuzzer,address,undefined -fno-sanitize-recover=undefined \
+	    $(DRILLED) $(if $(TOOLS),,-DWITH_LIBRARY) -Iinclude -Itests -Ifuzz fuzz/find.c $(FUZZ) $(TREES) $(REFERENCE) \
+	    $(if $(TOOLS),,$(LIB)) -o $@
+
+build/fuzz/replay: fuzz/replay.c $(FUZZ) fuzz/fuzz.h $(TREES) $(REFERENCE) $(HEADERS) $(LIB) | build $(TOOLS)
+	@echo "building $@ with $(LIB)"
+	@mkdir -p build/fuzz
+	@$(BUILD) -Ifuzz $(DRILLED) -DWITH_LIBRARY fuzz/replay.c $(FUZZ) $(TREES) $(REFERENCE) $(LIB) $(LDFLAGS) -o $@
+
+build/fuzz/corpus: fuzz/seeds.sh
+	@sh fuzz/seeds.sh $@
+
 build/stack: bench/stack.c $(HEADERS) $(LIB) | build $(TOOLS)
 	@echo "building $@ with $(LIB)"
 	@$(BUILD) bench/stack.c $(LIB) $(LDFLAGS) -o $@
@@ -123,9 +146,13 @@ build/demo: examples/ground.c $(HEADERS) $(LIB) | build $(TOOLS)
 	@echo "building $@ with $(LIB)"
 	@$(BUILD) examples/ground.c $(LIB) $(LDFLAGS) -o $@
 
-build/line-demo: examples/line.c $(HEADERS) $(LIB) | build $(TOOLS)
+build/seven: examples/seven.c $(HEADERS) $(LIB) | build $(TOOLS)
 	@echo "building $@ with $(LIB)"
-	@$(BUILD) examples/line.c $(LIB) $(LDFLAGS) -o $@
+	@$(BUILD) examples/seven.c $(LIB) $(LDFLAGS) -o $@
+
+build/line-demo: $(LINE) $(HEADERS) $(LIB) | build $(TOOLS)
+	@echo "building $@ with $(LIB)"
+	@$(BUILD) $(filter %.c,$(LINE)) $(LIB) $(LDFLAGS) -o $@
 
 library-test: lib
 	@nm $(LIB) 2>/dev/null | grep -q ' T tumbeliko_hash$$'
@@ -153,24 +180,16 @@ board-test: build/board-test
 line-test: build/line-test
 	@$(RUN) build/line-test $(or $(RUNS),20000) $(SEED)
 
-# The example programs run to their end, and the line's three promises hold in what they print.
-examples-test: build/demo build/line-demo
-	@$(RUN) build/demo > build/demo.log
-	@$(RUN) build/line-demo --seed 1 > build/line-demo.log
-	@[ $$(grep -c ' held$$' build/line-demo.log) -eq 3 ]
-	@echo "1 passed, 0 failed"
+examples-test: build/demo build/seven build/line-demo
+	@RUN="$(RUN)" sh tests/examples.sh
 
 # A new seed each time; stops at the first failure, and says which seed it was.
 soak: build/line-test
-	@end=$$(($$(date +%s) + 60 * $(MINUTES))); seed=$(or $(SEED),$$(date +%s)); times=0; \
-	echo "whole lines of boards for $(MINUTES) minutes, from seed $$seed on"; \
-	while [ $$(date +%s) -lt $$end ]; do \
-	    $(RUN) build/line-test $(or $(RUNS),20000) $$seed > build/soak.log || \
-	        { tail -n 40 build/soak.log; echo "failed with seed $$seed"; exit 1; }; \
-	    grep ' messages and ' build/soak.log; \
-	    seed=$$((seed + 1)); times=$$((times + 1)); \
-	done; \
-	echo "$$times passed, 0 failed"
+	@RUN="$(RUN)" sh tests/soak.sh $(MINUTES) $(or $(RUNS),20000) $(SEED)
+
+# Outside the gate. Found inputs stay in build/fuzz/corpus.
+fuzz: build/fuzz/find build/fuzz/replay | build/fuzz/corpus
+	@RUN="$(RUN)" sh fuzz/run.sh $(MINUTES) $(SEED)
 
 ifeq ($(TOOLS),)
 bench: build/bench stack
@@ -199,10 +218,17 @@ stack: build/stack
 demo: build/demo build/line-demo
 	@$(RUN) build/demo
 	@echo
-	@$(RUN) build/line-demo
+	@$(MAKE) --no-print-directory line-demo
 
+# The seeds are ones with a story: boards that get no send deliver the file all the same; a sender's lie becomes void everywhere.
 line-demo: build/line-demo
-	@$(RUN) build/line-demo
+	@echo "== the sender fails halfway, and board 4 lies"
+	@$(RUN) build/line-demo --seed $(or $(SEED),10) --breaks 1:fails,4:lies --picture build/line-1.svg $(FILE)
+	@echo
+	@echo "== the sender sends fragments of no block, and board 4 lies"
+	@$(RUN) build/line-demo --seed $(or $(SEED),1) --breaks 1:garbles,4:lies --picture build/line-2.svg $(FILE)
+	@echo
+	@echo "pictures of the two runs, for a browser: build/line-1.svg and build/line-2.svg"
 
 clean:
 	@rm -rf build target

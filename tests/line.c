@@ -403,6 +403,16 @@ static void one_run(uint32_t n, uint32_t t)
     runs++;
 }
 
+/* What was seen so far, in one line. tests/soak.sh adds these up. */
+static void show_figures(void)
+{
+    printf("%8lu runs, %lu steps, %lu messages, %lu voids, %lu runs in which nobody delivered; refused", runs, steps,
+           messages, voids, silent);
+    for (int number = 5; number <= 9; number++)
+        printf(" %d: %lu%s", number, refusals[number], number < 9 ? "," : "\n");
+    fflush(stdout);
+}
+
 /* So many in 10,000 of all runs with this table, one at least. */
 static void runs_of(uint32_t n, uint32_t t, unsigned long share)
 {
@@ -416,10 +426,8 @@ static void runs_of(uint32_t n, uint32_t t, unsigned long share)
         if (wrong && shown++ < 3)
             printf("run %lu of n %u, t %u: sender %u, longest %u, message of %zu bytes, liars %016llx\n",
                    i, n, t, b.sender, b.longest, message_len, (unsigned long long)liars);
-        if (runs % PROGRESS == 0) {
-            printf("%8lu runs, %lu steps\n", runs, steps);
-            fflush(stdout);
-        }
+        if (runs % PROGRESS == 0)
+            show_figures();
     }
 }
 
@@ -448,14 +456,10 @@ static void messages_voids_and_refusals_5_to_9_were_seen(void)
 {
     static const char *const kinds[] = { "", "sends", "echoes", "votes" };
 
-    printf("%lu runs, %lu steps, %lu messages and %lu voids delivered, %lu runs in which nobody delivered\n",
-           runs, steps, messages, voids, silent);
-    printf("accepted:");
+    show_figures();
+    printf("accepted");
     for (int kind = SEND; kind <= VOTE; kind++)
-        printf(" %lu %s%s", accepted[kind], kinds[kind], kind < VOTE ? "," : "\nrefused:");
-    for (int number = 1; number < 16; number++)
-        if (refusals[number] > 0)
-            printf(" %lu with %d%s", refusals[number], number, number < 9 ? "," : "\n");
+        printf(" %lu %s%s", accepted[kind], kinds[kind], kind < VOTE ? "," : "\n");
     CHECK(messages > 0);
     if (runs_wanted < RUNS / 10)
         return;

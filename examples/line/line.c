@@ -1,0 +1,177 @@
+/* The boards that keep the rules, and the run. */
+
+#include <stdio.h>
+#include <stdlib.h>
+#include <string.h>
+#include "line.h"
+
+#define WAIT_AFTER_LOSS 12000   /* until a lost record is put out again */
+#define REPEATED_ONE_IN 14
+
+scenario play;
+board line[BOARDS];
+figures seen;
+
+bool keeps(uint32_t number)
+{
+    return play.behaves[number - 1] == KEEPS;
+}
+
+static bool runs_steps(uint32_t number)
+{
+    return keeps(number) || play.behaves[number - 1] == FAILS;
+}
+
+bool same_as_file(const board *one)
+{
+    return one->delivery == TUMBELIKO_DELIVERY_MESSAGE && one->length == play.file_len
+        && memcmp(one->delivered, play.file, play.file_len) == 0;
+}
+
+static void must_not_be_refused(const char *what, uint32_t number)
+{
+    if (number != TUMBELIKO_OK) {
+        fprintf(stderr, "line: %s was refused with %u\n", what, number);
+        exit(1);
+    }
+}
+
+/* ---- start and send */
+
+/* A sender that fails does so when it has put out from half to nearly all of its sends. */
+static uint64_t drawn_stop(uint32_t number)
+{
+    uint32_t half = (play.n + 1) / 2;
+
+    if (number == SENDER)
+        return (half + random_below(play.n - half)) * put_out_gap();
+    return 15000 + random_below(40000);
+}
+
+static void start_all(void)
+{
+    for (uint32_t own = 1; own <= play.n; own++) {
+        board *one = &line[own - 1];
+
+        one->state_len = TUMBELIKO_STATE_BYTES(play.n, TUMBELIKO_S_MAX(play.n, play.t, LONGEST));
+        one->state = room_for(one->state_len);
+        must_not_be_refused("the start", tumbeliko_start(play.n, play.t, SENDER, LONGEST, own,
+                                                         one->state, one->state_len));
+        one->echoed_at = one->voted_at = one->delivered_at = one->stops_at = NEVER;
+        if (play.behaves[own - 1] == FAILS)
+            one->stops_at = drawn_stop(own);
+    }
+}
+
+static void send_all(void)
+{
+    static uint8_t out[TUMBELIKO_OUT_BYTES];
+    uint32_t first = random_below(play.n);
+
+    for (uint32_t i = 0; i < play.n && i * put_out_gap() < line[SENDER - 1].stops_at; i++) {
+        uint32_t to = 1 + (first + i) % play.n;
+        tumbeliko_sized sent = tumbeliko_send(play.n, play.t, SENDER, LONGEST, play.file, play.file_len, to,
+                                              out, sizeof out);
+
+        must_not_be_refused("the file", sent.number);
+        put_out_one(SENDER, to, kept(out, sent.length), sent.length, true, i * put_out_gap());
+    }
+}
+
+/* ---- a step */
+
+/* The record that a step put out, to all boards, this one too. */
+static void put_out_to_all(uint32_t from, const uint8_t *out, size_t len)
+{
+    const uint8_t *bytes = kept(out, len);
+    uint32_t first = random_below(play.n);
+    uint64_t when = now;
+
+    for (uint32_t i = 0; i < play.n; i++, when += put_out_gap())
+        if (when < line[from - 1].stops_at)
+            put_out_one(from, 1 + (first + i) % play.n, bytes, len, true, when);
+    if (out[0] == TUMBELIKO_ECHO)
+        line[from - 1].echoed_at = now;
+    else
+        line[from - 1].voted_at = now;
+}
+
+static void deliver(board *one, tumbeliko_stepped did, const uint8_t *delivery)
+{
+    one->delivery = did.delivery;
+    one->delivered_at = now;
+    one->delivered_step = seen.handed;
+    one->length = did.message_length;
+    one->delivered = memcpy(room_for(one->length), delivery, one->length);
+}
+
+static void hand_over(letter *which)
+{
+    static uint8_t out[TUMBELIKO_OUT_BYTES], delivery[LONGEST];
+    letter one = *which;
+    board *receiver = &line[one.to - 1];
+    tumbeliko_stepped did = tumbeliko_step(receiver->state, receiver->state_len, one.from, one.bytes, one.len,
+                                           out, sizeof out, delivery, sizeof delivery);
+
+    which->answer = did.number;
+    which->fate = did.number == TUMBELIKO_OK ? TAKEN : REFUSED;
+    seen.handed++;
+    seen.answers[did.number & 15]++;
+    receiver->steps++;
+    if (did.number != TUMBELIKO_OK) {
+        receiver->refused++;
+        return;
+    }
+    receiver->heard[one.bytes[0] & 3]++;
+    if (did.delivery != TUMBELIKO_DELIVERY_NONE)
+        deliver(receiver, did, delivery);
+    if (did.record_length > 0)
+        put_out_to_all(one.to, out, did.record_length);
+}
+
+/* ---- the run */
+
+/* A record of a board that keeps the rules is put out again until it gets through. */
+static void lose(letter *which)
+{
+    letter one = *which;
+    uint64_t later = now + WAIT_AFTER_LOSS;
+
+    which->fate = LOST;
+    seen.lost++;
+    if (one.genuine && later < line[one.from - 1].stops_at)
+        put_again(&one, later);
+}
+
+static void arrive(letter *which)
+{
+    letter one = *which;
+
+    if (one.from != one.to && random_below(100) < play.loss) {
+        lose(which);
+        return;
+    }
+    if (!runs_steps(one.to) || now >= line[one.to - 1].stops_at) {
+        which->fate = UNHEARD;
+        hears_and_lies(&one);
+        return;
+    }
+    hand_over(which);
+    if (!one.again && random_below(REPEATED_ONE_IN) == 0 && now < line[one.from - 1].stops_at) {
+        put_again(&one, now);
+        seen.repeated++;
+    }
+}
+
+void run_line(void)
+{
+    letter *one;
+
+    start_all();
+    if (runs_steps(SENDER))
+        send_all();
+    else
+        send_lies();
+    while ((one = next_letter()) != NULL)
+        arrive(one);
+}

@@ -1,0 +1,129 @@
+/* What is printed: the boards, the figures, and whether the promises held. */
+
+#include <stdio.h>
+#include <string.h>
+#include "line.h"
+
+const char *behaviour_name(behaviour which)
+{
+    static const char *const names[] = { "keeps the rules", "fails", "silent", "lies", "garbles", "splits" };
+
+    return names[which];
+}
+
+/* ---- the boards */
+
+static const char *delivered_name(const board *one)
+{
+    if (one->delivery == TUMBELIKO_DELIVERY_NONE)
+        return "nothing";
+    if (one->delivery == TUMBELIKO_DELIVERY_VOID)
+        return "void";
+    return same_as_file(one) ? "the file" : "another file";
+}
+
+static void show_board(uint32_t own)
+{
+    const board *one = &line[own - 1];
+    behaviour how = play.behaves[own - 1];
+    bool echoed = one->echoed_at != NEVER, voted = one->voted_at != NEVER;
+
+    printf("  %5u  %-7s%-9s", own, own == SENDER ? "sender" : "", how == KEEPS ? "" : behaviour_name(how));
+    if (how > FAILS) {
+        printf("      -       -      -        -  -           -\n");
+        return;
+    }
+    printf("  %5u  %6u  %5u  %7u  %-4s%s%-4s  ", one->heard[TUMBELIKO_SEND], one->heard[TUMBELIKO_ECHO],
+           one->heard[TUMBELIKO_VOTE], one->refused, echoed ? "echo" : "", echoed && voted ? ", " : "  ",
+           voted ? "vote" : "");
+    if (one->delivery == TUMBELIKO_DELIVERY_NONE)
+        printf("%s\n", delivered_name(one));
+    else
+        printf("%-12s  %7u\n", delivered_name(one), one->delivered_step);
+}
+
+static void show_figures(void)
+{
+    static const char *const meanings[16] = {
+        [5] = "malformed", [6] = "sends not from the sender", [7] = "too long", [8] = "after the end", [9] = "second ones"
+    };
+    uint32_t h = 0;
+
+    for (uint32_t own = 1; own <= play.n; own++)
+        h += keeps(own);
+    printf("  handed over    %u records: %u accepted", seen.handed, seen.answers[0]);
+    for (int number = 1; number < 16; number++)
+        if (seen.answers[number] > 0)
+            printf(", %u %s", seen.answers[number], meanings[number] != NULL ? meanings[number] : "refused");
+    printf("\n  on the way     %u lost, %u repeated\n", seen.lost, seen.repeated);
+    printf("  put out        %lu records, %lu bytes by the %u boards that keep the rules, one for each receiver\n",
+           seen.records, seen.bytes, h);
+    printf("                 (no run has more than 2 x %u x %u%s = %u records)\n", h, play.n,
+           keeps(SENDER) ? " + n" : "", 2 * h * play.n + (keeps(SENDER) ? play.n : 0));
+    if (h < play.n)
+        printf("                 %lu records, %lu bytes by the others\n", seen.other_records, seen.other_bytes);
+}
+
+void show_table(void)
+{
+    printf("%s, %zu bytes, from board %d to %u boards, of which %u may break the rules\n", play.name, play.file_len,
+           SENDER, play.n, play.t);
+    printf("seed %llu; of 100 records %u are lost\n\n", (unsigned long long)play.seed, play.loss);
+    printf("                            accepted\n");
+    printf("  board                   sends  echoes  votes  refused  put out     delivered     at step\n");
+    for (uint32_t own = 1; own <= play.n; own++)
+        show_board(own);
+    printf("\n");
+    show_figures();
+    printf("\n");
+}
+
+/* ---- the promises */
+
+static bool alike(const board *a, const board *b)
+{
+    return a->delivery == b->delivery && a->length == b->length && memcmp(a->delivered, b->delivered, a->length) == 0;
+}
+
+/* Of the boards that keep the rules; all records between them have been handed over. */
+promises judged(void)
+{
+    promises held = { true, true, true };
+    const board *first = NULL;
+    bool all = true;
+
+    for (uint32_t own = 1; own <= play.n; own++) {
+        const board *one = &line[own - 1];
+
+        if (!keeps(own))
+            continue;
+        if (one->delivery == TUMBELIKO_DELIVERY_NONE) {
+            all = false;
+            continue;
+        }
+        if (first == NULL)
+            first = one;
+        held.agreement = held.agreement && alike(one, first);
+        held.validity = held.validity && (!keeps(SENDER) || same_as_file(one));
+    }
+    held.totality = all || (first == NULL && !keeps(SENDER));
+    return held;
+}
+
+static void show_promise(const char *name, const char *what, bool held)
+{
+    printf("  %-12s%-62s %s\n", name, what, held ? "held" : "BROKEN");
+}
+
+bool show_promises(void)
+{
+    promises held = judged();
+
+    show_promise("agreement", "no two boards that keep the rules delivered differently", held.agreement);
+    if (keeps(SENDER))
+        show_promise("validity", "none of them delivered anything but the sender's file", held.validity);
+    else
+        printf("  %-12s%s\n", "validity", "the sender breaks the rules: nothing to keep");
+    show_promise("totality", keeps(SENDER) ? "all of them delivered" : "all of them delivered, or none did", held.totality);
+    return held.agreement && held.validity && held.totality;
+}

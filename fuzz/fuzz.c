@@ -1,0 +1,58 @@
+#include <stdio.h>
+#include "fuzz.h"
+
+static const struct {
+    const char *name;
+    void (*run)(void);
+} calls[] = {
+    { "hash", try_hash }, { "path check", try_path }, { "encode", try_encode }, { "rebuild", try_rebuild },
+    { "read block", try_read_block }, { "read record", try_read_record }, { "damaged record", try_damaged_record },
+    { "write record", try_write_record }, { "send", try_send }, { "start", try_start }, { "step", try_steps },
+    { "step, damaged state", try_damaged_state },
+#ifdef WITH_DRILL
+    { "drill", try_drill },
+#endif
+};
+
+#define CALLS (sizeof calls / sizeof *calls)
+
+static size_t running;
+static unsigned long counts[CALLS][16], deliveries[3];
+
+void differs(const char *fact)
+{
+    found(calls[running].name, fact);
+}
+
+void note(uint32_t number)
+{
+    counts[running][number & 15]++;
+}
+
+void note_delivery(uint32_t delivery)
+{
+    deliveries[delivery % 3]++;
+}
+
+void fuzz_one(const uint8_t *input, size_t len)
+{
+    begin_drawing(input, len);
+    running = draw_byte() % CALLS;
+    calls[running].run();
+}
+
+void show_counts(void)
+{
+    for (size_t i = 0; i < CALLS; i++) {
+        unsigned long all = 0;
+
+        for (int number = 0; number < 16; number++)
+            all += counts[i][number];
+        printf("  %-20s %9lu calls", calls[i].name, all);
+        for (int number = 0; number < 16; number++)
+            if (counts[i][number] > 0)
+                printf("  %d: %lu", number, counts[i][number]);
+        printf("\n");
+    }
+    printf("  %lu messages and %lu voids delivered\n", deliveries[1], deliveries[2]);
+}
