@@ -90,6 +90,23 @@ static void simple_encode(void)
     plain_tree(plain_hash, other_area, s_max, length, n, other_root, other_paths);
 }
 
+/* The fragments alone have no call of their own: what encoding takes less what a tree over the same fragments takes, made with the
+ * library's hash. */
+static void our_one(const uint8_t *bytes, size_t len, uint8_t *to)
+{
+    memcpy(to, tumbeliko_hash(bytes, len).bytes, 32);
+}
+
+static void our_tree(void)
+{
+    plain_tree(our_one, area, s_max, fragment_len, n, other_root, other_paths);
+}
+
+static void simple_fragments(void)
+{
+    kept = (uint32_t)plain_fragments(message, LONGEST, n, k, s_max, other_area);
+}
+
 static void our_rebuild(void)
 {
     kept = tumbeliko_rebuild(n, t, 1, LONGEST, marked, lengths, sizeof lengths, area, sizeof area,
@@ -154,7 +171,7 @@ static void powers_of(const uint8_t *elements, size_t count)
     }
 }
 
-static void isal_encode(void)
+static size_t isal_rows(void)
 {
     size_t rows = plain_block(message, LONGEST, k, other_block);
     uint8_t *from[64], *to[64], elements[64];
@@ -171,7 +188,17 @@ static void isal_encode(void)
     powers_of(elements, n);
     ec_init_tables((int)k, (int)n, matrix, tables);
     ec_encode_data((int)rows, (int)k, (int)n, tables, from, to);
-    plain_tree(BEST_HASH, other_area, s_max, rows, n, other_root, other_paths);
+    return rows;
+}
+
+static void isal_fragments(void)
+{
+    kept = (uint32_t)isal_rows();
+}
+
+static void isal_encode(void)
+{
+    plain_tree(BEST_HASH, other_area, s_max, isal_rows(), n, other_root, other_paths);
 }
 
 /* From the k lowest of the marked; the others must be what these give. */
@@ -258,6 +285,22 @@ static void row(const char *call, const char *input, void (*ours)(void), void (*
     else
         printf(" %.2f (%s) | %.2f |\n", us[2], name, us[0] / us[2]);
     fflush(stdout);
+}
+
+static void fragments_row(const char *input, void (*library)(void), const char *name)
+{
+    void (*const encoding[3])(void) = { our_encode, our_tree, NULL };
+    void (*const others[3])(void) = { simple_fragments, library, NULL };
+    double whole[3] = { 0, 0, 0 }, us[3] = { 0, 0, 0 }, ours;
+
+    best(encoding, whole);
+    best(others, us);
+    ours = whole[0] - whole[1];
+    printf("| fragments: encode less a tree by its hash | %s | %.2f | %.2f | %.2f |", input, ours, us[0], ours / us[0]);
+    if (library != NULL)
+        printf(" %.2f (%s) | %.2f |\n", us[1], name, ours / us[1]);
+    else
+        printf(" - | - |\n");
 }
 
 static void must(bool fact, const char *what)
@@ -348,6 +391,12 @@ static void code_rows(void)
 #endif
         snprintf(input, sizeof input, "16,384 B, n %u, t %u", n, t);
         row("encode", input, our_encode, simple_encode, library, BEST_NAME);
+        our_encode();
+        fragment_len = kept;
+#ifdef HAVE_ISAL
+        library = isal_fragments;
+#endif
+        fragments_row(input, library, "ISA-L");
     }
     for (int i = 0; i < 6; i++) {
         void (*library)(void) = NULL;

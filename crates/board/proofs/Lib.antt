@@ -6,3 +6,4 @@ pub mod KeptLaws
 pub mod Calm
 pub mod Stays
 pub mod StepSound
+pub mod Plans

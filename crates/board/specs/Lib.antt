@@ -2,3 +2,4 @@
 pub mod Planned
 pub mod Started
 pub mod Stepped
+pub mod Working

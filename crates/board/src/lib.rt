@@ -25,9 +25,10 @@ ghost use lib.Bits.{bitOr};
 ghost use lib.ListN.{length};
 ghost use Rattle.octets.specs.Bytes.{pick, put};
 ghost use Rattle.boards.specs.Table.{limits};
-ghost use Rattle.record.specs.Form.{parse, recordOf};
+ghost use Rattle.record.specs.Form.{recordOf};
 ghost use Rattle.state.specs.Sound.{isBoard};
-ghost use Rattle.board.specs.Planned.{isShort, isStray, isLate, isAgain, byMarks, byForm, planOf};
+ghost use Rattle.board.specs.Planned.{isShort, isStray, isLate, isAgain, byMarks, planOf};
+ghost use Rattle.board.specs.Working.{planBy};
 ghost use Rattle.board.specs.Stepped.{rootOf, pathOf, fragmentOf, marked, kept, due, won, enough, votedNow, outputNow, endsNow, settledTo, Room};
 ghost use Rattle.board.specs.Started.{freshBytes, begun, startOf};
 
@@ -90,17 +91,6 @@ fn by_marks(b: Table, m: Marks, from: usize, kind: u8, nodes: usize, len: usize)
     }
 }
 
-// What is to be done with the bytes of a record.
-fn by_form(b: Table, m: Marks, from: usize, r: &[u8]) -> Plan
-    requires { ⌜ (limits b ≡ true) × (isBoard b from ≡ true) ⌝ }
-    ensures { λ x. ⌜ x ≡ byForm b m from (parse (now (r .entry))) ⌝ }
-{
-    match read_record(r) {
-        Read::Fault { why: _, at: _ } => Plan::Refuse { number: 5 },
-        Read::Form { kind, nodes, len } => by_marks(b, m, from, kind, nodes, len),
-    }
-}
-
 // Whether a buffer of so many bytes is shorter than needed.
 fn short(b: Table, state: usize, out: usize, delivery: usize) -> bool
     requires { ⌜ limits b ≡ true ⌝ }
@@ -115,9 +105,17 @@ fn short(b: Table, state: usize, out: usize, delivery: usize) -> bool
     delivery < b.longest
 }
 
-// What a step is to do with the record `r` from a board. It only looks: no buffer is written.
-pub fn plan_for(s: &[u8], from: usize, r: &[u8], out: &[u8], delivery: &[u8]) -> Plan
-    ensures { λ x. ⌜ x ≡ planOf (now (s .entry)) from (now (r .entry)) (now (out .entry)) (now (delivery .entry)) ⌝ }
+// What a step is to do with a record that was read: of this kind, or not of the form of one, for which kind 0 stands.
+fn plan_by(
+    s: &[u8],
+    from: usize,
+    out: usize,
+    delivery: usize,
+    kind: u8,
+    nodes: usize,
+    len: usize,
+) -> Plan
+    ensures { λ x. ⌜ x ≡ planBy (now (s .entry)) from out delivery kind nodes len ⌝ }
 {
     if s.len() < 4608 {
         return Plan::Refuse { number: 2 };
@@ -126,13 +124,35 @@ pub fn plan_for(s: &[u8], from: usize, r: &[u8], out: &[u8], delivery: &[u8]) ->
         return Plan::Refuse { number: 3 };
     }
     let b = read_table(s);
-    if short(b, s.len(), out.len(), delivery.len()) {
+    if short(b, s.len(), out, delivery) {
         return Plan::Refuse { number: 2 };
     }
     if !is_board(b, from) {
         return Plan::Refuse { number: 4 };
     }
-    by_form(b, read_marks(s), from, r)
+    if kind == 0 {
+        return Plan::Refuse { number: 5 };
+    }
+    by_marks(b, read_marks(s), from, kind, nodes, len)
+}
+
+// What a step is to do with the record `r` from a board. It only looks: no buffer is written. The record is read first, and plan_by is
+// called in both cases, so that the compiler leaves it its own frame: a path check and a delivery then do not pay for it.
+pub fn plan_for(s: &[u8], from: usize, r: &[u8], out: &[u8], delivery: &[u8]) -> Plan
+    ensures { λ x. ⌜ x ≡ planOf (now (s .entry)) from (now (r .entry)) (now (out .entry)) (now (delivery .entry)) ⌝ }
+{
+    match read_record(r) {
+        Read::Fault { why: _, at: _ } => plan_by(s, from, out.len(), delivery.len(), 0, 0, 0),
+        Read::Form { kind, nodes, len } => plan_by(
+            s,
+            from,
+            out.len(),
+            delivery.len(),
+            kind,
+            nodes,
+            len,
+        ),
+    }
 }
 
 // The set with board i + 1, if `on`.

@@ -62,6 +62,7 @@ module _ (area : List ℕ) (s : ℕ) (ps m ds : List ℕ) (M : Master ps m) (apa
 
   pub made : 0 < length ps → Made area s ps m ds len (blockThrough len ps fragment)
   made pos = record {
+    product = M;
     size = length-block-through ps fragment len;
     small = small-byte pos;
     byte = λ ws c q h g w. by-weights area s ps m ds len [] ws q c w ∙ sym (in-line c q g)

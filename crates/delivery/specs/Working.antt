@@ -8,7 +8,7 @@ use lib.ListN.{length, getD}
 use Rattle.octets.specs.Bytes.{pick}
 use Rattle.code.specs.Code.{value, row}
 use Rattle.rebuilding.specs.Fits.{Boards}
-use Rattle.rebuilding.specs.Sums.{Weights, Values, weighed}
+use Rattle.rebuilding.specs.Sums.{Master, Weights, Values, weighed}
 
 -- room for the k points xs, their product m and its scales ds; the kept fragments lie in an area of the size, in rooms of s bytes
 pub record Ready (size s : ℕ) (xs m ds : List ℕ) : Type 0 where
@@ -19,8 +19,9 @@ pub record Ready (size s : ℕ) (xs m ds : List ℕ) : Type 0 where
   pub product : length m ≡ suc (length xs)
   pub scales : length ds ≡ length xs
 
--- b is the block of len rows whose bytes, and whose fragments' bytes, are the kept bytes by their weights
+-- b is the block of len rows whose bytes, and whose fragments' bytes, are the kept bytes by their weights; m is the product of all X - x
 pub record Made (area : List ℕ) (s : ℕ) (xs m ds : List ℕ) (len : ℕ) (b : List ℕ) : Type 0 where
+  pub product : Master xs m
   pub size : length b ≡ len * length xs
   pub small : (p : ℕ) → getD b p 0 < 256
   pub byte : (ws : List ℕ) (c q : ℕ) → c < len → q < length xs → Weights xs m ds (suc q) ws

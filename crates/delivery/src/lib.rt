@@ -124,19 +124,6 @@ fn write_row(
     }
 }
 
-// The value of a row at z.
-fn value_at(row: &[u8], z: u8) -> u8
-    ensures { λ r. ⌜ r ≡ value (now (row .entry)) z ⌝ }
-{
-    let mut v: u8 = 0;
-    let mut j = row.len();
-    while 0 < j {
-        j -= 1;
-        v = row[j] ^ field::product(z, v);
-    }
-    v
-}
-
 // 64 bytes moved up by one place, with a zero before them.
 fn move_up(buffer: &mut [u8])
     requires { ⌜ length (now buffer) ≡ 64 ⌝ }
@@ -276,7 +263,7 @@ fn fresh_root(
     while i < n {
         let z = (i + 1) as u8;
         rebuilding::weights_at(points, m, ds, z, ws);
-        let v = value_at(row, z);
+        let v = rebuilding::value_at(row, z);
         let y = fresh_leaf(area, s, points, ws, v, len, buffer);
         let up = tree::raised(waiting, y, i, n);
         x = up;

@@ -103,6 +103,32 @@ value-sum e x n z (d ∷ ds) (a ∷ r) l h =
     (λ j b. ap (add (mul (e j) (value (d ∷ ds) (x j)))) (L.mul-left-comm z (e j) (value (quot (x j) ds) z))
     ∙ sym (L.mul-add (e j) (value (d ∷ ds) (x j)) (mul z (value (quot (x j) ds) z))))
 
+-- M(z) - M(r) = (z - r) Q(z)
+split : (m : List ℕ) → 0 < length m → (z r : ℕ) → add (value m z) (value m r) ≡ mul (add z r) (value (quot r (drop 1 m)) z)
+split m h z r =
+    ap₂ add (value-eval m z ∙ ap (λ (l : List ℕ). eval bytes l z) whole) (value-eval m r ∙ ap (λ (l : List ℕ). eval bytes l r) whole)
+    ∙ factor bytes z r (getD m 0 0) (drop 1 m)
+    ∙ ap (mul (add z r)) (ap (λ (l : List ℕ). eval bytes l z) (sym (quot-eval r (drop 1 m))) ∙ sym (value-eval (quot r (drop 1 m)) z))
+  where
+    whole : m ≡ getD m 0 0 ∷ drop 1 m
+    whole = drop-cons m 0 0 h
+
+value-lt : (l : List ℕ) (z : ℕ) → All Byte l → value l z < 256
+value-lt l z h = subst (λ (v : ℕ). v < 256) (sym (value-eval l z)) (P.ok-eval bytes l z h)
+
+quot-bytes : (m : List ℕ) (r : ℕ) → ((i : ℕ) → getD m i 0 < 256) → All Byte (quot r (drop 1 m))
+quot-bytes m r h =
+    subst (All Byte) (sym (quot-eval r (drop 1 m))) (P.ok-quot bytes r (drop 1 m) (all-drop Byte 1 m (all-of Byte m (λ i b. h i))))
+
+-- away from a root r of m the quotient by X - r is m's own value times the inverse i of the difference
+pub slope-off : (m : List ℕ) → 0 < length m → ((i : ℕ) → getD m i 0 < 256) → (r z i : ℕ) → value m r ≡ 0 → mul (add z r) i ≡ 1
+    → mul (value m z) i ≡ value (quot r (drop 1 m)) z
+slope-off m h small r z i root one =
+    let q = value (quot r (drop 1 m)) z in
+    let e : value m z ≡ mul (add z r) q = sym (L.add-zero (value m z)) ∙ ap (add (value m z)) (sym root) ∙ split m h z r in
+    ap (λ (v : ℕ). mul v i) e ∙ L.mul-assoc (add z r) q i
+    ∙ L.divided q (add z r) i (value-lt (quot r (drop 1 m)) z (quot-bytes m r small)) one
+
 -- ---- the product of all X - x, and its quotients
 
 module _ (xs m : List ℕ) (M : Master xs m) (apart : Apart xs) (small : (i : ℕ) → getD xs i 0 < 256) (bytes-m : (i : ℕ) → getD m i 0 < 256) where
@@ -118,28 +144,15 @@ module _ (xs m : List ℕ) (M : Master xs m) (apart : Apart xs) (small : (i : �
       short : {a b : ℕ} → a ≡ suc b → a - 1 ≡ b
       short e = omega arith
 
-  cs-bytes : All Byte (drop 1 m)
-  cs-bytes = all-drop Byte 1 m (all-of Byte m (λ i h. bytes-m i))
-
   ok : (r : ℕ) → All Byte (quot r (drop 1 m))
-  ok r = subst (All Byte) (sym (quot-eval r (drop 1 m))) (P.ok-quot bytes r (drop 1 m) cs-bytes)
-
-  value-lt : (l : List ℕ) (z : ℕ) → All Byte l → value l z < 256
-  value-lt l z h = subst (λ (v : ℕ). v < 256) (sym (value-eval l z)) (P.ok-eval bytes l z h)
-
-  -- M(z) - M(r) = (z - r) Q(z)
-  split : (z r : ℕ) → add (value m z) (value m r) ≡ mul (add z r) (value (quot r (drop 1 m)) z)
-  split z r =
-      ap₂ add (value-eval m z ∙ ap (λ (l : List ℕ). eval bytes l z) whole) (value-eval m r ∙ ap (λ (l : List ℕ). eval bytes l r) whole)
-      ∙ factor bytes z r (getD m 0 0) (drop 1 m)
-      ∙ ap (mul (add z r)) (ap (λ (l : List ℕ). eval bytes l z) (sym (quot-eval r (drop 1 m))) ∙ sym (value-eval (quot r (drop 1 m)) z))
+  ok r = quot-bytes m r bytes-m
 
   -- the quotient at the other points
   other : (i j : ℕ) → i < length xs → j < length xs → x j ≢ x i → value (quot (x j) (drop 1 m)) (x i) ≡ 0
   other i j hi hj n =
       W.cancel (add (x i) (x j)) (value (quot (x j) (drop 1 m)) (x i)) (L.apart (x i) (x j) (λ e. n (sym e))) (L.add-lt (x i) (x j) (small i) (small j))
       (value-lt (quot (x j) (drop 1 m)) (x i) (ok (x j)))
-      (sym (split (x i) (x j)) ∙ ap₂ add (M .root i hi) (M .root j hj) ∙ L.add-self 0)
+      (sym (split m (omega (arith, M .size)) (x i) (x j)) ∙ ap₂ add (M .root i hi) (M .root j hj) ∙ L.add-self 0)
 
   distinct : (i j : ℕ) → i < length xs → j < length xs → j ≢ i → x j ≢ x i
   distinct i j hi hj n e =

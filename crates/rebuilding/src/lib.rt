@@ -101,15 +101,23 @@ pub fn advance(points: &[u8], ds: &[u8], top: u8, ws: &mut [u8])
     }
 }
 
-// m has the coefficients of the product of all X - x, x a point, and ds its scales.
-pub fn prepare(points: &[u8], m: &mut [u8], ds: &mut [u8])
-    requires { ⌜ Apart (now points) × (length (now m) ≡ suc (length (now points))) × (length (now ds) ≡ length (now points)) ⌝ }
-    ensures { λ r. ⌜ Master (now (points .entry)) (now (m .exit)) × Scales (now (points .entry)) (now (m .exit)) (now (ds .exit)) ⌝ }
+// m has the coefficients of the product of all X - x, x a point.
+pub fn expand(points: &[u8], m: &mut [u8])
+    requires { ⌜ length (now m) ≡ suc (length (now points)) ⌝ }
+    ensures { λ r. ⌜ Master (now (points .entry)) (now (m .exit)) ⌝ }
 {
     let k = points.len();
     clear_at(m, 0, k);
     m[k] = 1;
     master(points, m);
+}
+
+// The same, and ds has its scales.
+pub fn prepare(points: &[u8], m: &mut [u8], ds: &mut [u8])
+    requires { ⌜ Apart (now points) × (length (now m) ≡ suc (length (now points))) × (length (now ds) ≡ length (now points)) ⌝ }
+    ensures { λ r. ⌜ Master (now (points .entry)) (now (m .exit)) × Scales (now (points .entry)) (now (m .exit)) (now (ds .exit)) ⌝ }
+{
+    expand(points, m);
     scales(points, m, ds);
 }
 
@@ -219,14 +227,39 @@ fn write_columns(
     }
 }
 
+// The value of a row at z.
+pub fn value_at(row: &[u8], z: u8) -> u8
+    ensures { λ r. ⌜ r ≡ value (now (row .entry)) z ⌝ }
+{
+    let mut v: u8 = 0;
+    let mut j = row.len();
+    while 0 < j {
+        j -= 1;
+        v = row[j] ^ product(z, v);
+    }
+    v
+}
+
+// The value at z of the quotient of m by X - x, where x is a root of m and m has the value `at` at z: away from x one product and an inverse.
+fn slope_by(m: &[u8], x: u8, z: u8, at: u8) -> u8
+    requires { ⌜ 0 < length (now m) ⌝ }
+    ensures { λ r. ⌜ (value (now (m .entry)) x ≡ 0 → at ≡ value (now (m .entry)) z → r ≡ value (quot x (drop 1 (now (m .entry)))) z) ⌝ }
+{
+    if x == z {
+        return slope_at(m, x, z);
+    }
+    product(at, inverse(z ^ x))
+}
+
 // The weights with which the bytes at the points add up to the value at z.
 pub fn weights_at(points: &[u8], m: &[u8], ds: &[u8], z: u8, ws: &mut [u8])
     requires { ⌜ (0 < length (now m)) × (length (now ds) ≡ length (now points)) × (length (now ws) ≡ length (now points)) ⌝ }
-    ensures { λ r. ⌜ Values (now (points .entry)) (now (m .entry)) (now (ds .entry)) z (now (ws .exit)) ⌝ }
+    ensures { λ r. ⌜ (Master (now (points .entry)) (now (m .entry)) → Values (now (points .entry)) (now (m .entry)) (now (ds .entry)) z (now (ws .exit))) ⌝ }
 {
+    let at = value_at(m, z);
     let mut j = 0;
     while j < points.len() {
-        ws[j] = product(ds[j], slope_at(m, points[j], z));
+        ws[j] = product(ds[j], slope_by(m, points[j], z, at));
         j += 1;
     }
 }
@@ -310,7 +343,8 @@ fn rebuild_in(
     ensures { λ r. ⌜ Remade (now (area .entry)) s (now (points .entry)) (now (marked .entry)) count (now (out .entry)) (now (out .exit)) r ⌝ }
 {
     let k = points.len();
-    prepare(points, m, ds);
+    expand(points, m);
+    scales(points, m, ds);
     if others_agree(area, s, points, marked, m, ds, count, ws, sum) {
         clear_at(ws, 0, k);
         write_columns(area, s, points, m, ds, count, out, ws, sum);

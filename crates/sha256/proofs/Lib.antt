@@ -2,5 +2,6 @@
 pub mod Rounds
 pub mod Next
 pub mod Padding
+pub mod Blocks
 pub mod Digest
 pub mod Published

@@ -1,17 +1,17 @@
 -- Word t of the schedule looks only at the t words before it.
 -- Assumes nothing.
-use Prim.Native.Nat.{ℕ, _+_, _-_, _<_}
+use Prim.Native.Nat.{ℕ, _+_, _-_, _≤_, _<_}
 use mathlib.Core.Path.{_≡_, ap, _∙_, sym}
 use mathlib.Core.List.{List, [], _∷_, _++_}
 use native.Mathlib.Numerals.{add-one}
 use native.Mathlib.Decide.{decLt}
 use native.Mathlib.Omega.{arith}
 use borrow.Author.Tests.{lt-ltb, le-ltb}
-use lib.ListN.{length, take, set}
+use lib.ListN.{length, getD, take, set}
 use lib.Seq.{getD-take}
 use Rattle.octets.specs.Bytes.{pick}
 use Rattle.octets.proofs.Tables.{grown}
-use Rattle.sha256.specs.Sha256.{next, words}
+use Rattle.sha256.specs.Sha256.{expand, next, words}
 
 pub next-take : (b w : List ℕ) (t : ℕ) → next b (take t w) t ≡ next b w t
 unfolding next pick
@@ -35,3 +35,10 @@ unfolding words
 words-step b w t x h e hx =
     grown w (words b t) t x h e
     ∙ rw add-one (ap (λ (v : ℕ). words b t ++ (v ∷ [])) (hx ∙ sym (next-take b w t) ∙ ap (λ (l : List ℕ). next b l t) e))
+
+-- one more word stored, after the first sixteen
+pub expand-step : (b w : List ℕ) (t x : ℕ) → 16 ≤ t → t < length w → take t w ≡ words b t
+    → x ≡ expand (getD w (t - 2) 0) (getD w (t - 7) 0) (getD w (t - 15) 0) (getD w (t - 16) 0)
+    → take (t + 1) (set w t x) ≡ words b (t + 1)
+unfolding next pick
+expand-step b w t x low h e hx = words-step b w t x h e (rw (le-ltb t 16 low) hx)

@@ -1,14 +1,13 @@
--- The bytes of a padded message, and its blocks.
+-- The bytes of a padded message.
 -- Assumes nothing.
 use Prim.Native.Nat.{ℕ, suc, _+_, _-_, _*_, _/_, _≤_, _<_}
-use mathlib.Core.Path.{_≡_, ap, _∙_, sym}
+use mathlib.Core.Path.{_≡_, ap, _∙_}
 use mathlib.Core.List.{List, _∷_, _++_}
 use native.Mathlib.Omega.{arith}
-use lib.ListN.{length, getD, take, drop, replicate, length-append, length-replicate, getD-replicate, length-drop, List·getD-append}
-use lib.Seq.{getD-take, getD-drop, ext-getD, length-take-le}
+use lib.ListN.{length, getD, replicate, length-append, length-replicate, getD-replicate, List·getD-append}
 use Rattle.octets.proofs.Tables.{getD-right, length-tab, getD-tab}
-use Rattle.octets.specs.Bytes.{tab, part}
-use Rattle.sha256.specs.Sha256.{byteOf, zeros, pad, block}
+use Rattle.octets.specs.Bytes.{tab}
+use Rattle.sha256.specs.Sha256.{byteOf, zeros, pad}
 
 -- where the length's eight bytes start
 abbrev pub tail : ℕ → ℕ
@@ -65,30 +64,3 @@ module _ (h b : List ℕ) (i : ℕ) where
 
   pub pad-body : length h ≤ i → i < length h + length b → getD (pad (h ++ b)) i 0 ≡ getD b (i - length h) 0
   pad-body ge lt = pad-in (h ++ b) i (omega (arith, length-append h b)) ∙ getD-right h b i ge
-
--- a block is its 64 bytes
-pub block-tab : (p : List ℕ) (k : ℕ) → 64 * k + 64 ≤ length p → tab 64 (λ j. getD p (64 * k + j) 0) ≡ block k p
-unfolding block part
-block-tab p k h =
-    let len : length (take 64 (drop (64 * k) p)) ≡ 64 = length-take-le 64 (drop (64 * k) p) (rw length-drop (omega arith)) in
-    ext-getD 0 _ _ (length-tab 64 _ ∙ sym len)
-    (λ i lt. let lt′ : i < 64 = omega (arith, length-tab 64 (λ j. getD p (64 * k + j) 0)) in
-    getD-tab 64 (λ j. getD p (64 * k + j) 0) i lt′ ∙ sym (getD-take 64 (drop (64 * k) p) i 0 lt′ ∙ getD-drop (64 * k) p i 0))
-
--- a block that lies within the body is a part of it
-pub block-inside : (h b : List ℕ) (k : ℕ) → length h ≤ 64 * k → 64 * k - length h + 64 ≤ length b
-    → take 64 (drop (64 * k - length h) b) ≡ block k (pad (h ++ b))
-unfolding block part
-block-inside h b k low high =
-    let total : length (h ++ b) ≡ length h + length b = length-append h b in
-    let left : length (take 64 (drop (64 * k - length h) b)) ≡ 64 = length-take-le 64 (drop (64 * k - length h) b) (rw length-drop (omega arith)) in
-    let right : length (take 64 (drop (64 * k) (pad (h ++ b)))) ≡ 64 =
-    length-take-le 64 (drop (64 * k) (pad (h ++ b))) (rw length-drop (omega (arith, length-pad (h ++ b)))) in
-    ext-getD 0 _ _ (left ∙ sym right)
-    (λ i lt.
-    let lt′ : i < 64 = omega arith in
-    let at : 64 * k - length h + i ≡ 64 * k + i - length h = omega arith in
-    getD-take 64 (drop (64 * k - length h) b) i 0 lt′ ∙ getD-drop (64 * k - length h) b i 0
-    ∙ ap (λ (j : ℕ). getD b j 0) at ∙ sym (getD-right h b (64 * k + i) (omega arith))
-    ∙ sym (pad-in (h ++ b) (64 * k + i) (omega arith))
-    ∙ sym (getD-take 64 (drop (64 * k) (pad (h ++ b))) i 0 lt′ ∙ getD-drop (64 * k) (pad (h ++ b)) i 0))

@@ -2,3 +2,4 @@
 pub mod Words
 pub mod Tables
 pub mod Sha256
+pub mod Chain

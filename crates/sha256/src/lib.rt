@@ -1,16 +1,17 @@
 // SHA-256, as FIPS 180-4 has it.
 ghost use mathlib.Core.Path.{_≡_};
-ghost use Prim.Native.Nat.{ℕ, _<_, _≤_, _+_, _*_, _/_};
+ghost use Prim.Native.Nat.{ℕ, _<_, _≤_, _+_, _*_, _/_, _%_};
 ghost use mathlib.Core.List.{List, _++_};
-ghost use lib.ListN.{length, getD};
-ghost use Rattle.octets.specs.Bytes.{part};
+ghost use lib.ListN.{length, getD, take};
+ghost use Rattle.octets.specs.Bytes.{part, tab, fourAt};
 ghost use Rattle.sha256.specs.Words.{rotr, ch, maj, Σ₀, Σ₁, σ₀, σ₁};
 ghost use Rattle.sha256.specs.Tables.{K, H0};
-ghost use Rattle.sha256.specs.Sha256.{T₁, T₂, expand, round, sums, word, next, words, rounds, compress, byteOf, pad, block, chain, digest, sha256};
+ghost use Rattle.sha256.specs.Sha256.{T₁, T₂, expand, round, sums, words, rounds, compress, byteOf, pad, digest, sha256};
+ghost use Rattle.sha256.specs.Chain.{chainFrom};
 use std::num::wrapping_add_u32;
 
-// The 64 round constants, sixteen to a table: a table that is read at a place not known before is copied to the stack whole.
-const K0: [u32; 16] = [
+// The 64 round constants, eight to a table: read at places known before, so that no table is copied to the stack.
+const K0: [u32; 8] = [
     0x428a2f98,
     0x71374491,
     0xb5c0fbcf,
@@ -19,6 +20,9 @@ const K0: [u32; 16] = [
     0x59f111f1,
     0x923f82a4,
     0xab1c5ed5,
+];
+
+const K8: [u32; 8] = [
     0xd807aa98,
     0x12835b01,
     0x243185be,
@@ -29,7 +33,7 @@ const K0: [u32; 16] = [
     0xc19bf174,
 ];
 
-const K16: [u32; 16] = [
+const K16: [u32; 8] = [
     0xe49b69c1,
     0xefbe4786,
     0x0fc19dc6,
@@ -38,6 +42,9 @@ const K16: [u32; 16] = [
     0x4a7484aa,
     0x5cb0a9dc,
     0x76f988da,
+];
+
+const K24: [u32; 8] = [
     0x983e5152,
     0xa831c66d,
     0xb00327c8,
@@ -48,7 +55,7 @@ const K16: [u32; 16] = [
     0x14292967,
 ];
 
-const K32: [u32; 16] = [
+const K32: [u32; 8] = [
     0x27b70a85,
     0x2e1b2138,
     0x4d2c6dfc,
@@ -57,6 +64,9 @@ const K32: [u32; 16] = [
     0x766a0abb,
     0x81c2c92e,
     0x92722c85,
+];
+
+const K40: [u32; 8] = [
     0xa2bfe8a1,
     0xa81a664b,
     0xc24b8b70,
@@ -67,7 +77,7 @@ const K32: [u32; 16] = [
     0x106aa070,
 ];
 
-const K48: [u32; 16] = [
+const K48: [u32; 8] = [
     0x19a4c116,
     0x1e376c08,
     0x2748774c,
@@ -76,6 +86,9 @@ const K48: [u32; 16] = [
     0x4ed8aa4a,
     0x5b9cca4f,
     0x682e6ff3,
+];
+
+const K56: [u32; 8] = [
     0x748f82ee,
     0x78a5636f,
     0x84c87814,
@@ -192,68 +205,45 @@ fn wide(x: u8) -> u32
     x as u32
 }
 
-// Word t of a block, high byte first.
-fn word_at(b: &[u8], t: usize) -> u32
-    requires { ⌜ (t < 16) × (length (now b) ≡ 64) ⌝ }
-    ensures { λ r. ⌜ r ≡ word (now (b .entry)) t ⌝ }
+// Four bytes as a word, high byte first.
+fn four(a: u8, b: u8, c: u8, d: u8) -> u32
+    ensures { λ r. ⌜ r ≡ (a * 256 + b) * 65536 + (c * 256 + d) ⌝ }
 {
-    let i = 4 * t;
-    wide(b[i]) * 16777216 + wide(b[i + 1]) * 65536 + wide(b[i + 2]) * 256 + wide(b[i + 3])
+    wide(a) * 16777216 + wide(b) * 65536 + wide(c) * 256 + wide(d)
 }
 
-// Schedule word t, from the block and the words before t.
-fn next_word(b: &[u8], w: &[u32; 64], t: usize) -> u32
-    requires { ⌜ (t < 64) × (length (now b) ≡ 64) ⌝ }
-    ensures { λ r. ⌜ r ≡ next (now (b .entry)) (now (w .entry)) t ⌝ }
-{
-    if t < 16 {
-        return word_at(b, t);
-    }
-    expanded(w[t - 2], w[t - 7], w[t - 15], w[t - 16])
-}
-
-// The 64 schedule words of a block.
-fn schedule(b: &[u8]) -> [u32; 64]
-    requires { ⌜ length (now b) ≡ 64 ⌝ }
-    ensures { λ r. ⌜ r ≡ words (now (b .entry)) 64 ⌝ }
-{
-    let mut w = [0u32; 64];
-    let mut t: usize = 0;
-    while t < 64 {
-        let x = next_word(b, &w, t);
-        w[t] = x;
-        t += 1;
-    }
-    w
-}
-
-// The constants of rounds 16 q to 16 q + 15.
-fn constants(q: usize) -> [u32; 16]
-    requires { ⌜ q < 4 ⌝ }
-    ensures { λ r. ⌜ r ≡ part (16 * q) 16 K ⌝ }
+// The constants of rounds 8 q to 8 q + 7.
+fn constants(q: usize) -> [u32; 8]
+    requires { ⌜ q < 8 ⌝ }
+    ensures { λ r. ⌜ r ≡ part (8 * q) 8 K ⌝ }
 {
     match q {
         0 => K0,
-        1 => K16,
-        2 => K32,
-        _ => K48,
+        1 => K8,
+        2 => K16,
+        3 => K24,
+        4 => K32,
+        5 => K40,
+        6 => K48,
+        _ => K56,
     }
 }
 
-// Rounds 16 q to 16 q + 15.
-fn turned_some(h: [u32; 8], w: &[u32; 64], q: usize) -> [u32; 8]
-    requires { ⌜ q < 4 ⌝ }
-    ensures { λ r. ⌜ ((s : List ℕ) → h ≡ rounds (now (w .entry)) (16 * q) s → r ≡ rounds (now (w .entry)) (16 * q + 16) s) ⌝ }
+// Rounds 8 q to 8 q + 7: after eight of them every working word stands where it stood.
+fn turned_eight(h: [u32; 8], w: &[u32; 64], q: usize) -> [u32; 8]
+    requires { ⌜ q < 8 ⌝ }
+    ensures { λ r. ⌜ ((s : List ℕ) → h ≡ rounds (now (w .entry)) (8 * q) s → r ≡ rounds (now (w .entry)) (8 * q + 8) s) ⌝ }
 {
     let k = constants(q);
-    let mut s = h;
-    let mut j: usize = 0;
-    while j < 16 {
-        let next = turned(s, k[j], w[16 * q + j]);
-        s = next;
-        j += 1;
-    }
-    s
+    let t = 8 * q;
+    let s1 = turned(h, k[0], w[t]);
+    let s2 = turned(s1, k[1], w[t + 1]);
+    let s3 = turned(s2, k[2], w[t + 2]);
+    let s4 = turned(s3, k[3], w[t + 3]);
+    let s5 = turned(s4, k[4], w[t + 4]);
+    let s6 = turned(s5, k[5], w[t + 5]);
+    let s7 = turned(s6, k[6], w[t + 6]);
+    turned(s7, k[7], w[t + 7])
 }
 
 // The 64 rounds.
@@ -262,8 +252,8 @@ fn turned_all(h: [u32; 8], w: &[u32; 64]) -> [u32; 8]
 {
     let mut s = h;
     let mut q: usize = 0;
-    while q < 4 {
-        let next = turned_some(s, w, q);
+    while q < 8 {
+        let next = turned_eight(s, w, q);
         s = next;
         q += 1;
     }
@@ -286,13 +276,26 @@ fn added(x: [u32; 8], y: [u32; 8]) -> [u32; 8]
     ]
 }
 
-// The chaining words after one more block.
-pub fn compressed(h: [u32; 8], b: &[u8]) -> [u32; 8]
-    requires { ⌜ length (now b) ≡ 64 ⌝ }
-    ensures { λ r. ⌜ r ≡ compress h (now (b .entry)) ⌝ }
+// The schedule words after the first sixteen.
+fn expand_rest(w: &mut [u32; 64])
+    requires { ⌜ length (now w) ≡ 64 ⌝ }
+    ensures { λ _. ⌜ (length (now (w .exit)) ≡ 64) × ((b : List ℕ) → take 16 (now (w .entry)) ≡ words b 16 → now (w .exit) ≡ words b 64) ⌝ }
 {
-    let w = schedule(b);
-    let s = turned_all(h, &w);
+    let mut t: usize = 16;
+    while t < 64 {
+        let x = expanded(w[t - 2], w[t - 7], w[t - 15], w[t - 16]);
+        w[t] = x;
+        t += 1;
+    }
+}
+
+// The chaining words after the block whose sixteen words w starts with.
+fn mixed(h: [u32; 8], w: &mut [u32; 64]) -> [u32; 8]
+    requires { ⌜ length (now w) ≡ 64 ⌝ }
+    ensures { λ r. ⌜ (length (now (w .exit)) ≡ 64) × ((b : List ℕ) → take 16 (now (w .entry)) ≡ words b 16 → r ≡ compress h b) ⌝ }
+{
+    expand_rest(w);
+    let s = turned_all(h, w);
     added(h, s)
 }
 
@@ -327,9 +330,9 @@ fn word_byte(x: u32, j: usize) -> u8
     ((x >> (8 * (3 - j))) % 256) as u8
 }
 
-// Byte i of the padded message: head, then body, then the padding.
+// Byte i of the padded message, before the length: head, then body, then the one bit and zeros.
 fn padded(head: &[u8], body: &[u8], i: usize) -> u8
-    requires { ⌜ (length (now head) + length (now body) ≤ 65536) × (i < length (pad (now head ++ now body))) ⌝ }
+    requires { ⌜ (length (now head) + length (now body) ≤ 65536) × (i < (length (now head) + length (now body) + 8) / 64 * 64 + 56) ⌝ }
     ensures { λ r. ⌜ r ≡ getD (pad (now (head .entry) ++ now (body .entry))) i 0 ⌝ }
 {
     let h = head.len();
@@ -340,22 +343,62 @@ fn padded(head: &[u8], body: &[u8], i: usize) -> u8
     if i < n {
         return body[i - h];
     }
-    pad_byte(n, i)
+    if i == n { 128 } else { 0 }
 }
 
-// Block k of the padded message.
-fn block_at(head: &[u8], body: &[u8], k: usize) -> [u8; 64]
-    requires { ⌜ (length (now head) + length (now body) ≤ 65536) × (64 * k + 64 ≤ length (pad (now head ++ now body))) ⌝ }
-    ensures { λ r. ⌜ r ≡ block k (pad (now (head .entry) ++ now (body .entry))) ⌝ }
+// The word from i on of the padded message, before the length, byte by byte.
+fn edge_word(head: &[u8], body: &[u8], i: usize) -> u32
+    requires { ⌜ (length (now head) + length (now body) ≤ 65536) × (i + 3 < (length (now head) + length (now body) + 8) / 64 * 64 + 56) ⌝ }
+    ensures { λ r. ⌜ r ≡ fourAt (pad (now (head .entry) ++ now (body .entry))) i ⌝ }
 {
-    let mut b = [0u8; 64];
-    let mut j: usize = 0;
-    while j < 64 {
-        let x = padded(head, body, 64 * k + j);
-        b[j] = x;
-        j += 1;
+    let a = padded(head, body, i);
+    let b = padded(head, body, i + 1);
+    let c = padded(head, body, i + 2);
+    let d = padded(head, body, i + 3);
+    four(a, b, c, d)
+}
+
+// The word from i on past a message of n bytes: the last of its eight length bytes, or zeros.
+fn pad_word(n: usize, i: usize) -> u32
+    requires { ⌜ (n ≤ 65536) × (n < i) × (i % 4 ≡ 0) × (i < (n + 8) / 64 * 64 + 64) ⌝ }
+    ensures { λ r. ⌜ ((m : List ℕ) → length m ≡ n → r ≡ fourAt (pad m) i) ⌝ }
+{
+    if i % 64 < 60 {
+        return 0;
     }
-    b
+    if i <= n + 4 {
+        return 0;
+    }
+    (8 * n) as u32
+}
+
+// The word from i on of the padded message.
+fn word_at(head: &[u8], body: &[u8], i: usize) -> u32
+    requires { ⌜ (length (now head) + length (now body) ≤ 65536) × (i % 4 ≡ 0) × (i < length (pad (now head ++ now body))) ⌝ }
+    ensures { λ r. ⌜ r ≡ fourAt (pad (now (head .entry) ++ now (body .entry))) i ⌝ }
+{
+    let h = head.len();
+    let n = h + body.len();
+    if h <= i && i + 4 <= n {
+        return octets::four_at(body, i - h) as u32;
+    }
+    if i <= n {
+        return edge_word(head, body, i);
+    }
+    pad_word(n, i)
+}
+
+// The sixteen words from `at` on of the padded message, to the front of the schedule.
+fn load(w: &mut [u32; 64], head: &[u8], body: &[u8], at: usize)
+    requires { ⌜ (length (now w) ≡ 64) × (length (now head) + length (now body) ≤ 65536) × (at % 64 ≡ 0) × (at < length (pad (now head ++ now body))) ⌝ }
+    ensures { λ _. ⌜ (length (now (w .exit)) ≡ 64) × (take 16 (now (w .exit)) ≡ tab 16 (λ t. fourAt (pad (now (head .entry) ++ now (body .entry))) (at + 4 * t))) ⌝ }
+{
+    let mut t: usize = 0;
+    while t < 16 {
+        let x = word_at(head, body, at + 4 * t);
+        w[t] = x;
+        t += 1;
+    }
 }
 
 // The chaining words before the first block.
@@ -365,36 +408,30 @@ pub fn begun() -> [u32; 8]
     H0
 }
 
-// The chaining words after block k.
-fn absorbed(h: [u32; 8], head: &[u8], body: &[u8], k: usize) -> [u32; 8]
-    requires { ⌜ (length (now head) + length (now body) ≤ 65536) × (64 * k + 64 ≤ length (pad (now head ++ now body))) ⌝ }
-    ensures { λ r. ⌜ r ≡ compress h (block k (pad (now (head .entry) ++ now (body .entry)))) ⌝ }
+// The blocks of the padded message before `end`, taken into the chaining words.
+fn absorb(h: &mut [u32; 8], head: &[u8], body: &[u8], end: usize)
+    requires { ⌜ (length (now head) + length (now body) ≤ 65536) × (end % 64 ≡ 0) × (end ≤ length (pad (now head ++ now body))) ⌝ }
+    ensures { λ _. ⌜ now (h .exit) ≡ chainFrom (now (h .entry)) (end / 64) (pad (now (head .entry) ++ now (body .entry))) ⌝ }
 {
-    let at = 64 * k;
-    let n = head.len();
-    if n <= at && at - n + 64 <= body.len() {
-        let from = at - n;
-        let to = from + 64;
-        return compressed(h, &body[from..to]);
+    let mut w = [0u32; 64];
+    let mut at: usize = 0;
+    while at < end {
+        load(&mut w, head, body, at);
+        let s = *h;
+        let next = mixed(s, &mut w);
+        *h = next;
+        at += 64;
     }
-    let b = block_at(head, body, k);
-    compressed(h, &b)
 }
 
-// The chaining words of the whole message: head, then body.
-fn chained(head: &[u8], body: &[u8]) -> [u32; 8]
-    requires { ⌜ length (now head) + length (now body) ≤ 65536 ⌝ }
-    ensures { λ r. ⌜ r ≡ chain (length (pad (now (head .entry) ++ now (body .entry))) / 64) (pad (now (head .entry) ++ now (body .entry))) ⌝ }
+// The chaining words after one more block.
+pub fn compressed(h: [u32; 8], b: &[u8]) -> [u32; 8]
+    requires { ⌜ length (now b) ≡ 64 ⌝ }
+    ensures { λ r. ⌜ r ≡ compress h (now (b .entry)) ⌝ }
 {
-    let count = (head.len() + body.len() + 72) / 64;
-    let mut h = begun();
-    let mut k: usize = 0;
-    while k < count {
-        let next = absorbed(h, head, body, k);
-        h = next;
-        k += 1;
-    }
-    h
+    let mut s = h;
+    absorb(&mut s, b"", b, 64);
+    s
 }
 
 // The chaining words as bytes.
@@ -416,5 +453,8 @@ pub fn joined(head: &[u8], body: &[u8]) -> [u8; 32]
     requires { ⌜ length (now head) + length (now body) ≤ 65536 ⌝ }
     ensures { λ r. ⌜ r ≡ sha256 (now (head .entry) ++ now (body .entry)) ⌝ }
 {
-    written(chained(head, body))
+    let mut h = begun();
+    let end = (head.len() + body.len() + 72) / 64 * 64;
+    absorb(&mut h, head, body, end);
+    written(h)
 }

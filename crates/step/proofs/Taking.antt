@@ -1,32 +1,36 @@
 -- What a record that is taken gives to the functions that take it.
-use mathlib.Core.Path.{_≡_, refl, sym, ap, _∙_}
-use Prim.Native.Nat.{ℕ, _-_, _≤_, _<_}
+use mathlib.Core.Path.{_≡_, refl, sym, ap, fun-ext, _∙_}
+use Prim.Native.Nat.{ℕ, _+_, _-_, _*_, _≤_, _<_}
 use mathlib.Core.List.{List}
 use mathlib.Core.Bool.{Bool, true, false, not, _&&_, _||_}
 use native.Mathlib.Omega.{arith}
 use borrow.Author.Tests.{leb-true}
+use mathlib.Core.Option.{Option}
 use lib.Dec.{leb, eqb}
+use lib.Count.{ones}
 use lib.ListN.{length}
-use Rattle.octets.specs.Bytes.{pick, put, twoAt}
+use Rattle.octets.specs.Bytes.{pick, part, put, twoAt}
 use Rattle.octets.specs.Sets.{has}
+use Rattle.octets.proofs.Laws.{length-put}
 use Rattle.octets.proofs.Picks.{and-l, and-r}
-use Rattle.boards.specs.Table.{limits, sMax}
+use Rattle.boards.specs.Table.{limits, kOf, sMax}
 use Rattle.boards.specs.declared.Table.{Table}
 use Rattle.boards.proofs.Within.{within, sMax-le}
 use Rattle.record.proofs.Facts.{whole}
 use Rattle.record.proofs.PartLaws.{fragment-most}
-use Rattle.state.specs.State.{view, tableOf, marksOf, marksBytes, lenAt}
-use Rattle.state.specs.Sound.{usableOk, lengthOk, boardOk}
+use Rattle.state.specs.State.{State, view, tableOf, marksOf, marksBytes, lenAt, echoAt, fragmentAt}
+use Rattle.state.specs.Sound.{usableOk, lengthOk, boardOk, naming}
 use Rattle.state.specs.declared.Marks.{Marks}
 use Rattle.state.proofs.Facts.{board-number, sound-limits}
+use Rattle.state.proofs.Writes.{table-kept, rest-kept, fragment-kept, marks-back}
 use Rattle.board.specs.Stepped.{rootOf, marked, kept, won, enough, votedNow, outputNow, endsNow, ended, settledTo, leaves, Room}
 use Rattle.board.proofs.Taken.{Taken, not-done, fragment-room}
-use Rattle.board.proofs.KeptLaws.{kept-length}
-use Rattle.board.proofs.StepSound.{settled-sounds}
+use Rattle.board.proofs.KeptLaws.{kept-length, kept-table}
+use Rattle.board.proofs.StepSound.{fit, settled-sounds}
 use Rattle.delivery.specs.declared.Delivered.{Delivered}
-use Rattle.delivery.specs.Delivered.{left}
-use Rattle.step.specs.Asked.{Formed, Deliverable}
-use Rattle.step.specs.Step.{stepped, outcome, good, putOut, resultIn, delivered, takenOf}
+use Rattle.delivery.specs.Delivered.{left, resultOf}
+use Rattle.step.specs.Asked.{Formed, Deliverable, saidBy}
+use Rattle.step.specs.Step.{stepped, outcome, good, putOut, usableFor, keptOf, resultIn, delivered, takenOf}
 
 -- of a usable echo the length kept is from 1 to max
 length-in : (u e : Bool) (l max : ℕ) → ((not u || e) && pick e (leb 1 l && leb l max) (eqb l 0)) ≡ true → u ≡ true → (1 ≤ l) × (l ≤ max)
@@ -101,22 +105,128 @@ module _ (s : List ℕ) (from : ℕ) (r o d : List ℕ) (k p f : ℕ) (t : Taken
       lengths = lengths-now;
     }
 
--- what the functions leave, one after the other, is what the definition says
-pub takes : (s : List ℕ) (from : ℕ) (r o d : List ℕ) (k p f : ℕ) → Taken s from r o d k p f
-    → (ok : Bool) (after : Marks) (s1 s2 o2 d2 : List ℕ) (len : ℕ) (x : Delivered)
-    → ok ≡ good k p f from r s
+-- what keeping a record leaves, and what is then put out
+said : (s : List ℕ) (from : ℕ) (r : List ℕ) (k p f : ℕ) (ok v : Bool)
+    → v ≡ votedNow (tableOf s) (not (eqb k 1)) (marked k (from - 1) ok (marksOf s)) (kept (sMax (tableOf s)) k (from - 1) p f r s) (rootOf r)
+    → putOut (eqb k 1 && ok) (not (marked k (from - 1) ok (marksOf s) .voted) && v) p f r ≡ saidBy ok k p f from r s
+unfolding saidBy
+said s from r k p f ok v e = rw e
+
+pub keeps : (s : List ℕ) (from : ℕ) (r o : List ℕ) (k p f : ℕ) (ok : Bool) (after : Marks) (s1 s2 o2 : List ℕ) (len : ℕ)
     → s1 ≡ kept (sMax (tableOf s)) k (from - 1) p f r s
     → after ≡ settledTo (tableOf s) (not (eqb k 1)) (marked k (from - 1) ok (marksOf s)) s1 (rootOf r)
+    → s2 ≡ put 6 (marksBytes after) s1
     → len ≡ length (putOut (eqb k 1 && ok) (not (marked k (from - 1) ok (marksOf s) .voted) && after .voted) p f r)
     → o2 ≡ put 0 (putOut (eqb k 1 && ok) (not (marked k (from - 1) ok (marksOf s) .voted) && after .voted) p f r) o
-    → left x d2 ≡ delivered (after .done) (resultIn (tableOf s) (marked k (from - 1) ok (marksOf s)) s1 (rootOf r)) d
-    → s2 ≡ put 6 (marksBytes after) s1
-    → outcome (stepped 0 len (x .kind) (x .length)) s2 o2 d2 ≡ takenOf k p f s from r o d
-unfolding takenOf leaves
-takes s from r o d k p f t ok after s1 s2 o2 d2 len x ey es ea el eo ex ew =
+    → (s2 ≡ leaves ok k p f from r s) × (len ≡ length (saidBy ok k p f from r s)) × (o2 ≡ put 0 (saidBy ok k p f from r s) o)
+unfolding leaves
+keeps s from r o k p f ok after s1 s2 o2 len es ea ew el eo =
     let b = tableOf s in
     let word = not (eqb k 1) in
     let m = marked k (from - 1) ok (marksOf s) in
-    let ev : after .voted ≡ votedNow b word m s1 (rootOf r) = ap (λ (y : Marks). y .voted) ea ∙ voted-now b word m s1 (rootOf r) in
-    let en : after .done ≡ endsNow b word m s1 (rootOf r) = ap (λ (y : Marks). y .done) ea ∙ done-now k (from - 1) ok (marksOf s) (not-done t) b word s1 (rootOf r) in
-    rw (← ey, ← es, ← ev, ← en, ← ea, ← ex, ← el, ← eo, ← ew)
+    let ev : after .voted ≡ votedNow b word m (kept (sMax b) k (from - 1) p f r s) (rootOf r)
+    = ap (λ (y : Marks). y .voted) ea ∙ voted-now b word m s1 (rootOf r) ∙ ap (λ (l : List ℕ). votedNow b word m l (rootOf r)) es in
+    let z = said s from r k p f ok (after .voted) ev in
+    (rw (← es, ← ea) ew, rw z at el, rw z at eo)
+
+module _ (b : Table) (m after : Marks) (s : List ℕ) (same-set : after .usable ≡ m .usable) where
+  abbrev written : List ℕ
+  written = put 6 (marksBytes after) s
+
+  roots-still : _≡_ {A = ℕ → List ℕ} (λ j. part (echoAt j) 32 written) (λ j. part (echoAt j) 32 s)
+  roots-still = ap (λ (v : State). v .echoRoot) (rest-kept after s b m)
+
+  length-at : (i : ℕ) → twoAt written (lenAt i) ≡ twoAt s (lenAt i)
+  length-at i = ap (λ (v : State). v .len i) (rest-kept after s b m)
+
+  kept-still : (max i : ℕ) → keptOf max written i ≡ keptOf max s i
+  unfolding keptOf
+  kept-still max i = rw (length-at (i - 1)) (fragment-kept after s (fragmentAt max (i - 1)) (twoAt s (lenAt (i - 1))) (omega arith))
+
+  naming-still : (root : List ℕ) → naming (b .n) (after .usable) (λ j. part (echoAt j) 32 written) root ≡ naming (b .n) (m .usable) (λ j. part (echoAt j) 32 s) root
+  naming-still root =
+      ap (λ (u : ℕ). naming (b .n) u (λ j. part (echoAt j) 32 written) root) same-set
+      ∙ ap (λ (g : ℕ → List ℕ). naming (b .n) (m .usable) g root) roots-still
+
+  usable-still : (root : List ℕ) → usableFor b after written root ≡ usableFor b m s root
+  unfolding usableFor
+  usable-still root = naming-still root
+
+  -- the marks play no part in what is delivered, but for the usable echoes
+  result-still : (root : List ℕ) → resultIn b after written root ≡ resultIn b m s root
+  unfolding resultIn
+  result-still root = rw (usable-still root) (ap (λ (g : ℕ → List ℕ). resultOf b root (usableFor b m s root) g) (fun-ext (kept-still (sMax b))))
+
+  enough-still : (root : List ℕ) → enough b m s root ≡ true → enough b after written root ≡ true
+  unfolding enough
+  enough-still root e = ap (λ (x : ℕ). leb (kOf b) (ones x)) (naming-still root) ∙ e
+
+  deliverable-still : (r d : List ℕ) (ends : Bool) → Deliverable b m s r d ends → Deliverable b after written r d ends
+  deliverable-still r d ends h = record {
+    lim = h .lim;
+    room = rw (length-put 6 (marksBytes after) s) (h .room);
+    root = h .root;
+    longest = h .longest;
+    due = λ e. enough-still (rootOf r) (h .due e);
+    lengths = λ i l u. rw (length-at i) (h .lengths i l (rw same-set at u));
+  }
+
+-- no delivery, where none is due
+pub none-due : (x : Delivered) (done : Bool) (result : Option (List ℕ)) (d : List ℕ) → (x .kind ≡ 0) × (x .length ≡ 0) → done ≡ false → left x d ≡ delivered done result d
+unfolding delivered pick
+none-due x done result d h e = rw (e, h .0, h .1)
+
+module _ (s : List ℕ) (from : ℕ) (r o d : List ℕ) (k p f : ℕ) (t : Taken s from r o d k p f) (ok : Bool) where
+  -- what was kept, and the marks once all that is due is done
+  abbrev bytes : List ℕ
+  bytes = kept (sMax (tableOf s)) k (from - 1) p f r s
+
+  abbrev before : Marks
+  before = marked k (from - 1) ok (marksOf s)
+
+  abbrev after : Marks
+  after = settledTo (tableOf s) (not (eqb k 1)) before bytes (rootOf r)
+
+  same-usable : after .usable ≡ before .usable
+  unfolding settledTo ended
+  same-usable = refl
+
+  table-left : tableOf (leaves ok k p f from r s) ≡ tableOf s
+  unfolding leaves
+  table-left = table-kept after bytes ∙ kept-table (sMax (tableOf s)) k (from - 1) p f r s
+
+  marks-left : marksOf (leaves ok k p f from r s) ≡ after
+  unfolding leaves
+  marks-left = marks-back after bytes (long-still s from r o d k p f t) (fit (tableOf s) after bytes (settled-sounds s from r o d ok k p f t))
+
+  -- what delivering from the state that is left asks for
+  pub done-asks : (s2 : List ℕ) → s2 ≡ leaves ok k p f from r s
+      → (4608 ≤ length s2) × Deliverable (tableOf s2) (marksOf s2) s2 r d (marksOf s2 .done)
+  unfolding leaves
+  done-asks s2 e =
+      rw (e, marks-left, table-left) (
+        rw (length-put 6 (marksBytes after) bytes) (long-still s from r o d k p f t),
+        deliverable-still (tableOf s) before after bytes same-usable r d (after .done) (deliverable s from r o d k p f t ok),
+      )
+
+  result-left : (s2 d2 : List ℕ) (x : Delivered) → s2 ≡ leaves ok k p f from r s
+      → left x d2 ≡ delivered (marksOf s2 .done) (resultIn (tableOf s2) (marksOf s2) s2 (rootOf r)) d
+      → left x d2 ≡ delivered (endsNow (tableOf s) (not (eqb k 1)) before bytes (rootOf r)) (resultIn (tableOf s) before bytes (rootOf r)) d
+  unfolding leaves
+  result-left s2 d2 x es ex =
+      let e1 : marksOf s2 .done ≡ endsNow (tableOf s) (not (eqb k 1)) before bytes (rootOf r)
+      = rw (es, marks-left) (done-now k (from - 1) ok (marksOf s) (not-done t) (tableOf s) (not (eqb k 1)) bytes (rootOf r)) in
+      let e2 : resultIn (tableOf s2) (marksOf s2) s2 (rootOf r) ≡ resultIn (tableOf s) before bytes (rootOf r)
+      = rw (es, marks-left, table-left) (result-still (tableOf s) before after bytes same-usable (rootOf r)) in
+      ex ∙ rw (e2, e1)
+
+  -- what the functions leave, one after the other, is what the definition says
+  pub takes : (s2 o2 d2 : List ℕ) (len : ℕ) (x : Delivered)
+      → ok ≡ good k p f from r s
+      → s2 ≡ leaves ok k p f from r s
+      → len ≡ length (saidBy ok k p f from r s)
+      → o2 ≡ put 0 (saidBy ok k p f from r s) o
+      → left x d2 ≡ delivered (marksOf s2 .done) (resultIn (tableOf s2) (marksOf s2) s2 (rootOf r)) d
+      → outcome (stepped 0 len (x .kind) (x .length)) s2 o2 d2 ≡ takenOf k p f s from r o d
+  unfolding takenOf saidBy
+  takes s2 o2 d2 len x ey es el eo ex = rw (← ey, ← result-left s2 d2 x es ex, ← es, ← el, ← eo)

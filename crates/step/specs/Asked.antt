@@ -1,16 +1,18 @@
 -- What the functions of a step ask of one another.
 use mathlib.Core.Path.{_≡_}
-use Prim.Native.Nat.{ℕ, _+_, _*_, _≤_, _<_}
+use Prim.Native.Nat.{ℕ, _+_, _-_, _*_, _≤_, _<_}
 use mathlib.Core.List.{List}
-use mathlib.Core.Bool.{Bool, true}
+use mathlib.Core.Bool.{Bool, true, not, _&&_}
+use lib.Dec.{eqb}
 use lib.ListN.{length}
 use Rattle.octets.specs.Bytes.{twoAt}
 use Rattle.octets.specs.Sets.{has}
 use Rattle.boards.specs.Table.{limits, sMax}
 use Rattle.boards.specs.declared.Table.{Table}
-use Rattle.state.specs.State.{stateSize, lenAt}
+use Rattle.state.specs.State.{stateSize, lenAt, tableOf, marksOf}
 use Rattle.state.specs.declared.Marks.{Marks}
-use Rattle.board.specs.Stepped.{rootOf, enough}
+use Rattle.board.specs.Stepped.{rootOf, enough, marked, kept, votedNow}
+use Rattle.step.specs.Step.{putOut}
 
 -- a record r with p path nodes and f fragment bytes
 pub record Formed (r : List ℕ) (p f : ℕ) : Type 0 where
@@ -26,3 +28,11 @@ pub record Deliverable (b : Table) (m : Marks) (s r d : List ℕ) (ends : Bool) 
   pub longest : b .longest ≤ length d
   pub due : ends ≡ true → enough b m s (rootOf r) ≡ true
   pub lengths : (i : ℕ) → i < 64 → has (m .usable) i ≡ true → (1 ≤ twoAt s (lenAt i)) × (twoAt s (lenAt i) ≤ sMax b)
+
+-- what is put out once a record of kind k is kept, by whether its path is correct; as takenOf has it
+unfoldable pub saidBy : Bool → ℕ → ℕ → ℕ → ℕ → List ℕ → List ℕ → List ℕ
+saidBy ok k p f from r s =
+    let b = tableOf s in
+    let m = marked k (from - 1) ok (marksOf s) in
+    let s1 = kept (sMax b) k (from - 1) p f r s in
+    putOut (eqb k 1 && ok) (not (m .voted) && votedNow b (not (eqb k 1)) m s1 (rootOf r)) p f r

@@ -18,15 +18,17 @@ use state::read_own;
 use state::read_table;
 use state::write_marks;
 ghost use mathlib.Core.Path.{_≡_};
-ghost use Prim.Native.Nat.{_≤_};
+ghost use mathlib.Core.List.{List};
+ghost use Prim.Native.Nat.{ℕ, _≤_};
 ghost use lib.ListN.{length};
 ghost use Rattle.octets.specs.Bytes.{put};
 ghost use Rattle.board.specs.declared.Plan.the-variants.{Take};
 ghost use Rattle.board.specs.Planned.{planOf};
-ghost use Rattle.board.specs.Stepped.{rootOf};
+ghost use Rattle.state.specs.State.{tableOf, marksOf};
+ghost use Rattle.board.specs.Stepped.{rootOf, leaves};
 ghost use Rattle.delivery.specs.Delivered.{left};
-ghost use Rattle.step.specs.Asked.{Formed, Deliverable};
-ghost use Rattle.step.specs.Step.{outcome, placeOf, good, putOut, resultIn, delivered, takenOf, stepOf};
+ghost use Rattle.step.specs.Asked.{Formed, Deliverable, saidBy};
+ghost use Rattle.step.specs.Step.{stepped, outcome, placeOf, good, putOut, resultIn, delivered, takenOf, stepOf};
 
 // What a step answers: 0 or a refusal's number, the length of the record put out, the delivery (0 none, 1 a message, 2 void) and its length.
 #[repr(C)]
@@ -89,6 +91,96 @@ fn deliver_due(s: &[u8], b: Table, m: Marks, r: &[u8], ends: bool, delivery: &mu
     deliver(b, &s[40..], &s[4608..], set, &r[3..35], delivery)
 }
 
+// Whether the state says that the board is done.
+fn is_done(s: &[u8]) -> bool
+    requires { ⌜ 4608 ≤ length (now s) ⌝ }
+    ensures { λ x. ⌜ x ≡ marksOf (now (s .entry)) .done ⌝ }
+{
+    let m = read_marks(s);
+    m.done
+}
+
+// No delivery.
+fn nothing() -> Delivered
+    ensures { λ x. ⌜ (x .kind ≡ 0) × (x .length ≡ 0) ⌝ }
+{
+    Delivered { kind: 0, length: 0 }
+}
+
+// The delivery by what the state says: it is due if the board is done now.
+fn deliver_done(s: &[u8], r: &[u8], delivery: &mut [u8]) -> Delivered
+    requires { ⌜ (4608 ≤ length (now s)) × Deliverable (tableOf (now s)) (marksOf (now s)) (now s) (now r) (now delivery) (marksOf (now s) .done) ⌝ }
+    ensures { λ x. ⌜ left x (now (delivery .exit)) ≡ delivered (marksOf (now (s .entry)) .done) (resultIn (tableOf (now (s .entry))) (marksOf (now (s .entry))) (now (s .entry)) (rootOf (now (r .entry)))) (now (delivery .entry)) ⌝ }
+{
+    let b = read_table(s);
+    let m = read_marks(s);
+    deliver_due(s, b, m, r, m.done, delivery)
+}
+
+// Keeps what a record says and puts out what is then due; the length of the record put out. `good` says whether its path is correct.
+fn take_in(
+    s: &mut [u8],
+    from: usize,
+    r: &[u8],
+    out: &mut [u8],
+    kind: u8,
+    nodes: usize,
+    len: usize,
+    good: bool,
+) -> u32
+    requires { ⌜ ((d : List ℕ) × (planOf (now s) from (now r) (now out) d ≡ Take kind nodes len)) ⌝ }
+    ensures { λ x. ⌜ (now (s .exit) ≡ leaves good kind nodes len from (now (r .entry)) (now (s .entry)))
+        × (x ≡ length (saidBy good kind nodes len from (now (r .entry)) (now (s .entry))))
+        × (now (out .exit) ≡ put 0 (saidBy good kind nodes len from (now (r .entry)) (now (s .entry))) (now (out .entry))) ⌝ }
+{
+    let b = read_table(s);
+    let m = mark(read_marks(s), kind, from - 1, good);
+    keep_record(s, fragment_most(b), kind, from - 1, nodes, len, r);
+    let after = settle(s, b, kind != 1, m, r);
+    write_marks(s, after);
+    put_out(
+        out,
+        r,
+        nodes,
+        len,
+        both(kind == 1, good),
+        both(!m.voted, after.voted),
+    )
+}
+
+// The answer of a step that took its record.
+fn answered(put: u32, left: Delivered) -> Stepped
+    ensures { λ x. ⌜ x ≡ stepped 0 put (left .kind) (left .length) ⌝ }
+{
+    Stepped {
+        number: 0,
+        record_length: put,
+        delivery: left.kind,
+        message_length: left.length,
+    }
+}
+
+// Takes a vote: it has no path. take_in and deliver_done are called here and in take_record, so that the compiler leaves each its own frame:
+// no step then pays for the frames of both.
+fn take_vote(
+    s: &mut [u8],
+    from: usize,
+    r: &[u8],
+    out: &mut [u8],
+    delivery: &mut [u8],
+    nodes: usize,
+    len: usize,
+) -> Stepped
+    requires { ⌜ planOf (now s) from (now r) (now out) (now delivery) ≡ Take 3 nodes len ⌝ }
+    ensures { λ x. ⌜ outcome x (now (s .exit)) (now (out .exit)) (now (delivery .exit)) ≡ takenOf 3 nodes len (now (s .entry)) from (now (r .entry)) (now (out .entry)) (now (delivery .entry)) ⌝ }
+{
+    let put = take_in(s, from, r, out, 3, nodes, len, false);
+    if !is_done(s) {
+        return answered(put, nothing());
+    }
+    answered(put, deliver_done(s, r, delivery))
+}
+
 // Takes a record: keeps what it says, and does all that is then due.
 fn take_record(
     s: &mut [u8],
@@ -103,27 +195,15 @@ fn take_record(
     requires { ⌜ planOf (now s) from (now r) (now out) (now delivery) ≡ Take kind nodes len ⌝ }
     ensures { λ x. ⌜ outcome x (now (s .exit)) (now (out .exit)) (now (delivery .exit)) ≡ takenOf kind nodes len (now (s .entry)) from (now (r .entry)) (now (out .entry)) (now (delivery .entry)) ⌝ }
 {
-    let b = read_table(s);
-    let yes = is_good(s, from, r, kind, nodes, len);
-    let m = mark(read_marks(s), kind, from - 1, yes);
-    keep_record(s, fragment_most(b), kind, from - 1, nodes, len, r);
-    let after = settle(s, b, kind != 1, m, r);
-    let put = put_out(
-        out,
-        r,
-        nodes,
-        len,
-        both(kind == 1, yes),
-        both(!m.voted, after.voted),
-    );
-    let left = deliver_due(s, b, m, r, after.done, delivery);
-    write_marks(s, after);
-    Stepped {
-        number: 0,
-        record_length: put,
-        delivery: left.kind,
-        message_length: left.length,
+    if kind == 3 {
+        return take_vote(s, from, r, out, delivery, nodes, len);
     }
+    let good = is_good(s, from, r, kind, nodes, len);
+    let put = take_in(s, from, r, out, kind, nodes, len, good);
+    if !is_done(s) {
+        return answered(put, nothing());
+    }
+    answered(put, deliver_done(s, r, delivery))
 }
 
 // A board's step: the record `r` from a board, by the board's state; `out` is for the record put out, `delivery` for the message delivered.

@@ -1,7 +1,7 @@
 -- Laws of the tree.
-pub mod Pairs
 pub mod Spans
 pub mod Lifts
+pub mod Pairs
 pub mod Whole
 pub mod Bound
 pub mod Flat

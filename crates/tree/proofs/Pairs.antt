@@ -1,22 +1,27 @@
--- Two parts of 32 bytes, one after the other.
+-- The string that is hashed for a node.
 -- Assumes nothing.
-use Prim.Native.Nat.{ℕ, _+_, _-_, _≤_, _<_}
-use mathlib.Core.Path.{_≡_, _∙_}
-use mathlib.Core.List.{List, _++_}
+use Prim.Native.Nat.{ℕ, _+_, _≤_}
+use mathlib.Core.Path.{_≡_, ap, ap₂, _∙_}
+use mathlib.Core.List.{List, _∷_, _++_, append-nil}
 use native.Mathlib.Omega.{arith}
-use lib.ListN.{length, getD, List·getD-append}
-use Rattle.octets.specs.Bytes.{part}
+use lib.ListN.{length, take, drop, drop-of-length-le}
+use lib.Seq.{sets-eq}
+use Rattle.octets.specs.Bytes.{part, put}
 use Rattle.octets.proofs.Laws.{length-part}
-use Rattle.octets.proofs.Parts.{getD-part}
-use Rattle.octets.proofs.Tables.{getD-right}
+use Rattle.sha256.specs.Sha256.{sha256}
+use Rattle.tree.specs.Tree.{nodeHash}
 
--- byte k of two parts of 32 bytes, one after the other
-module _ (a b : List ℕ) (i j k : ℕ) where
-  pub parts-left : k < 32 → i + 32 ≤ length a → getD (part i 32 a ++ part j 32 b) k 0 ≡ getD a (i + k) 0
-  parts-left lt fits =
-      List·getD-append (part i 32 a) (part j 32 b) 0 k (rw (length-part i 32 a fits) lt) ∙ getD-part i 32 k a lt
+-- 32 bytes put in after the prefix
+prefixed : (x s : List ℕ) → length x ≡ 32 → length s ≡ 32 → put 1 x (1 ∷ s) ≡ 1 ∷ x
+unfolding put
+prefixed x s hx hs =
+    sets-eq x (1 ∷ s) 1 (omega arith)
+    ∙ ap (λ (l : List ℕ). (1 ∷ x) ++ l) (drop-of-length-le (1 ∷ s) {i = 1 + length x} (omega arith))
+    ∙ append-nil (1 ∷ x)
 
-  pub parts-right : 32 ≤ k → k < 64 → i + 32 ≤ length a → getD (part i 32 a ++ part j 32 b) k 0 ≡ getD b (j + (k - 32)) 0
-  parts-right ge lt fits =
-      getD-right (part i 32 a) (part j 32 b) k (rw (length-part i 32 a fits) ge)
-      ∙ rw (length-part i 32 a fits) (getD-part j 32 (k - 32) b (omega arith))
+-- the prefix and the left node, then the right node
+pub node-made : (a b s left r : List ℕ) (i j n : ℕ) → i + 32 ≤ length a → n ≡ 32 → length s ≡ 32 → left ≡ put 1 (part i 32 a) (1 ∷ s)
+    → r ≡ sha256 (left ++ take n (drop j b)) → r ≡ nodeHash sha256 (part i 32 a) (part j 32 b)
+unfolding nodeHash part
+node-made a b s left r i j n fits hn hs hl hr =
+    hr ∙ ap₂ (λ (x : List ℕ) (k : ℕ). sha256 (x ++ take k (drop j b))) (hl ∙ prefixed (part i 32 a) s (length-part i 32 a fits) hs) hn

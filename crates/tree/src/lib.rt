@@ -20,36 +20,15 @@ pub fn leaf(f: &[u8]) -> [u8; 32]
     sha256::joined(b"\0", f)
 }
 
-// Byte k of two nodes: that of a from i on, and that of b from j on.
-fn either(a: &[u8], i: usize, b: &[u8], j: usize, k: usize) -> u8
-    requires { ⌜ (i + 32 ≤ length (now a)) × (j + 32 ≤ length (now b)) × (k < 64) ⌝ }
-    ensures { λ r. ⌜ r ≡ getD (part i 32 (now (a .entry)) ++ part j 32 (now (b .entry))) k 0 ⌝ }
-{
-    if k < 32 { a[i + k] } else { b[j + (k - 32)] }
-}
-
-// Two nodes, one after the other.
-fn pair(a: &[u8], i: usize, b: &[u8], j: usize) -> [u8; 64]
-    requires { ⌜ (i + 32 ≤ length (now a)) × (j + 32 ≤ length (now b)) ⌝ }
-    ensures { λ r. ⌜ r ≡ part i 32 (now (a .entry)) ++ part j 32 (now (b .entry)) ⌝ }
-{
-    let mut p = [0u8; 64];
-    let mut k: usize = 0;
-    while k < 64 {
-        let x = either(a, i, b, j, k);
-        p[k] = x;
-        k += 1;
-    }
-    p
-}
-
 // The hash of a node over the node of a from i on and the node of b from j on.
 fn node(a: &[u8], i: usize, b: &[u8], j: usize) -> [u8; 32]
     requires { ⌜ (i + 32 ≤ length (now a)) × (j + 32 ≤ length (now b)) ⌝ }
     ensures { λ r. ⌜ r ≡ nodeHash sha256 (part i 32 (now (a .entry))) (part j 32 (now (b .entry))) ⌝ }
 {
-    let p = pair(a, i, b, j);
-    sha256::joined(b"\x01", &p)
+    let mut left = [1u8; 33];
+    octets::copy_part(&mut left, 1, a, i, 32);
+    let to = j + 32;
+    sha256::joined(&left, &b[j..to])
 }
 
 // How many leaves a tree d levels high has, where it is full.
@@ -93,18 +72,33 @@ pub fn nodes(n: usize, i: usize, d: usize) -> usize
 }
 
 // The hash x of the tree d levels high that leaf i is in, taken up a level: beside node j of the path, or alone.
-fn lifted(path: &[u8], n: usize, i: usize, x: [u8; 32], j: usize, d: usize) -> [u8; 32]
-    requires { ⌜ (n ≤ 64) × (i < n) × (d < 6) × (j ≤ 6) × (middle d i < n → 32 * j + 32 ≤ length (now path)) ⌝ }
-    ensures { λ r. ⌜ ((f : List ℕ) → x ≡ climb sha256 (nodeOf (now (path .entry))) (around n d i) i f → j ≡ depth (around n d i) i → r ≡ climb sha256 (nodeOf (now (path .entry))) (around n (d + 1) i) i f) ⌝ }
+fn lift(x: &mut [u8; 32], path: &[u8], n: usize, i: usize, j: usize, d: usize)
+    requires { ⌜ (n ≤ 64) × (i < n) × (d < 6) × (j ≤ 6) × (length (now x) ≡ 32) × (middle d i < n → 32 * j + 32 ≤ length (now path)) ⌝ }
+    ensures { λ _. ⌜ (length (now (x .exit)) ≡ 32) × ((f : List ℕ) → now (x .entry) ≡ climb sha256 (nodeOf (now (path .entry))) (around n d i) i f → j ≡ depth (around n d i) i → now (x .exit) ≡ climb sha256 (nodeOf (now (path .entry))) (around n (d + 1) i) i f) ⌝ }
 {
     let m = middle_of(i, d);
     if n <= m {
-        return x;
+        return;
     }
     if i < m {
-        return node(&x, 0, path, 32 * j);
+        let y = node(x, 0, path, 32 * j);
+        *x = y;
+        return;
     }
-    node(path, 32 * j, &x, 0)
+    let z = node(path, 32 * j, x, 0);
+    *x = z;
+}
+
+// The hash x of leaf i of n, taken up beside the nodes of the path.
+fn climb_up(x: &mut [u8; 32], path: &[u8], n: usize, i: usize)
+    requires { ⌜ (n ≤ 64) × (i < n) × (length (now x) ≡ 32) × (length (now path) ≡ 32 * depth (treeOf n) i) ⌝ }
+    ensures { λ _. ⌜ (length (now (x .exit)) ≡ 32) × ((f : List ℕ) → now (x .entry) ≡ leafHash sha256 f → now (x .exit) ≡ climb sha256 (nodeOf (now (path .entry))) (treeOf n) i f) ⌝ }
+{
+    let mut d: usize = 0;
+    while d < 6 {
+        lift(x, path, n, i, nodes(n, i, d), d);
+        d += 1;
+    }
 }
 
 // The hash h of leaf i of n, taken up beside the nodes of the path.
@@ -113,12 +107,7 @@ pub fn taken_up(path: &[u8], n: usize, i: usize, h: [u8; 32]) -> [u8; 32]
     ensures { λ r. ⌜ ((f : List ℕ) → h ≡ leafHash sha256 f → r ≡ climb sha256 (nodeOf (now (path .entry))) (treeOf n) i f) ⌝ }
 {
     let mut x = h;
-    let mut d: usize = 0;
-    while d < 6 {
-        let y = lifted(path, n, i, x, nodes(n, i, d), d);
-        x = y;
-        d += 1;
-    }
+    climb_up(&mut x, path, n, i);
     x
 }
 
@@ -147,7 +136,8 @@ pub fn correct(n: usize, i: usize, root: &[u8], path: &[u8], f: &[u8]) -> bool
     if path.len() != 32 * nodes(n, i - 1, 6) {
         return false;
     }
-    let x = taken_up(path, n, i - 1, leaf(f));
+    let mut x = leaf(f);
+    climb_up(&mut x, path, n, i - 1);
     octets::same_at(&x, 0, root, 0, 32)
 }
 
@@ -164,15 +154,16 @@ fn stays(i: usize, n: usize, d: usize) -> bool
 }
 
 // The hash x of the tree d levels high that leaf i is in, taken up a level: beside what waits on its left, or alone.
-fn closed(waiting: &[u8], x: [u8; 32], i: usize, d: usize) -> [u8; 32]
-    requires { ⌜ (i < 64) × (d < 6) × (192 ≤ length (now waiting)) ⌝ }
-    ensures { λ r. ⌜ r ≡ pick (ltb i (middle d i)) x (nodeHash sha256 (part (32 * d) 32 (now (waiting .entry))) x) ⌝ }
+fn close(x: &mut [u8; 32], waiting: &[u8], i: usize, d: usize)
+    requires { ⌜ (i < 64) × (d < 6) × (length (now x) ≡ 32) × (192 ≤ length (now waiting)) ⌝ }
+    ensures { λ _. ⌜ (length (now (x .exit)) ≡ 32) × (now (x .exit) ≡ pick (ltb i (middle d i)) (now (x .entry)) (nodeHash sha256 (part (32 * d) 32 (now (waiting .entry))) (now (x .entry)))) ⌝ }
 {
     let m = middle_of(i, d);
     if i < m {
-        return x;
+        return;
     }
-    node(waiting, 32 * d, &x, 0)
+    let y = node(waiting, 32 * d, x, 0);
+    *x = y;
 }
 
 // The root of n leaves that come one after the other: leaf i's hash x, after those before it. The last leaf's answer is the root.
@@ -187,8 +178,7 @@ pub fn raised(waiting: &mut [u8], x: [u8; 32], i: usize, n: usize) -> [u8; 32]
             octets::copy_at(waiting, 32 * d, &y);
             return y;
         }
-        let z = closed(waiting, y, i, d);
-        y = z;
+        close(&mut y, waiting, i, d);
         d += 1;
     }
     y

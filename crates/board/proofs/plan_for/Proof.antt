@@ -1,64 +1,38 @@
 use mathlib.Core.Path.{sym, _∙_}
-use borrow.Author.Tests.{lt-ltb, le-ltb, not-false}
-use lib.ListN.{length}
-use Rattle.octets.specs.Bytes.{pick}
-use Rattle.state.specs.State.{view}
-use Rattle.state.proofs.Facts.{sound-limits}
-use Rattle.board.specs.Planned.{planOf}
+use Rattle.board.proofs.Plans.{plan-fault, plan-form}
 use borrow.Author.Needs.{needs}
 use Rattle.board.proofs.plan_for.Statement.{statement}
 use Rattle.board.proofs.plan_for.Tie as tie
 
-returns : tie.Need-returns
-unfolding planOf pick
-returns c = rw (lt-ltb _ _ (c .if1 .taken))
+read-record-requires : tie.Need-read-record-requires
+read-record-requires c κs = search needs
 
-is-sound-requires : tie.Need-is-sound-requires
-is-sound-requires c κs = search needs
+enum-told : tie.Need-enum-told
+enum-told c = search needs
+
+plan-by-requires : tie.Need-plan-by-requires
+plan-by-requires c κs = search needs
+
+enum-known-kind : tie.Need-enum-known-kind
+enum-known-kind c = search needs
+
+plan-by-requires-2 : tie.Need-plan-by-requires-2
+plan-by-requires-2 c κs = search needs
+
+returns : tie.Need-returns
+returns c = c .plan-by .ensures ∙ plan-fault (c .before .before .before .before .before .before .before .before .args .s .now) (c .before .before .before .before .before .before .before .before .args .from) (c .before .before .before .before .before .before .before .before .args .r .now) (c .before .before .before .before .before .before .before .before .args .out .now) (c .before .before .before .before .before .before .before .before .args .delivery .now) _ _ (sym (c .before .before .before .read-record .ensures) ∙ c .before .enum-told .given .1)
 
 returns-2 : tie.Need-returns-2
-unfolding planOf pick
-returns-2 c = rw (le-ltb (length (c .before .before .before .before .before .before .before .args .s .now)) 4608 (c .before .before .if1 .left), ← c .before .is-sound .ensures, c .if2 .taken)
-
-read-table-requires : tie.Need-read-table-requires
-read-table-requires c κs = search needs
-
-short-requires : tie.Need-short-requires
-short-requires c κs = rw (c .read-table .ensures) (sound-limits (view (c .before .before .before .before .before .before .before .before .args .s .now)) (sym (c .before .before .is-sound .ensures) ∙ not-false (c .before .before .is-sound .result) (c .before .if2 .left)))
-
-returns-3 : tie.Need-returns-3
-unfolding planOf pick
-returns-3 c = rw (le-ltb (length (c .before .before .before .before .before .before .before .before .before .before .args .s .now)) 4608 (c .before .before .before .before .before .if1 .left), ← c .before .before .before .before .is-sound .ensures, c .before .before .before .if2 .left, ← c .before .before .read-table .ensures, ← c .before .short .ensures, c .if3 .taken)
-
-is-board-requires : tie.Need-is-board-requires
-is-board-requires c κs = search needs
-
-returns-4 : tie.Need-returns-4
-unfolding planOf pick
-returns-4 c = rw (le-ltb (length (c .before .before .before .before .before .before .before .before .before .before .before .before .args .s .now)) 4608 (c .before .before .before .before .before .before .before .if1 .left), ← c .before .before .before .before .before .before .is-sound .ensures, c .before .before .before .before .before .if2 .left, ← c .before .before .before .before .read-table .ensures, ← c .before .before .before .short .ensures, c .before .before .if3 .left, ← c .before .is-board .ensures, c .if4 .taken)
-
-read-marks-requires : tie.Need-read-marks-requires
-read-marks-requires c κs = search needs
-
-by-form-requires : tie.Need-by-form-requires
-by-form-requires c κs = (rw (c .before .before .before .before .before .read-table .ensures) (sound-limits (view (c .before .before .before .before .before .before .before .before .before .before .before .before .before .args .s .now)) (sym (c .before .before .before .before .before .before .before .is-sound .ensures) ∙ not-false (c .before .before .before .before .before .before .before .is-sound .result) (c .before .before .before .before .before .before .if2 .left))), sym (c .before .before .is-board .ensures) ∙ not-false (c .before .before .is-board .result) (c .before .if4 .left))
-
-returns-5 : tie.Need-returns-5
-unfolding planOf pick
-returns-5 c = rw (le-ltb (length (c .before .before .before .before .before .before .before .before .before .before .before .before .before .before .args .s .now)) 4608 (c .before .before .before .before .before .before .before .before .before .if1 .left), ← c .before .before .before .before .before .before .before .before .is-sound .ensures, c .before .before .before .before .before .before .before .if2 .left, ← c .before .before .before .before .before .before .read-table .ensures, ← c .before .before .before .before .before .short .ensures, c .before .before .before .before .if3 .left, ← c .before .before .before .is-board .ensures, c .before .before .if4 .left, ← c .before .read-marks .ensures) (c .by-form .ensures)
+returns-2 c = c .plan-by2 .ensures ∙ plan-form (c .before .before .before .before .before .before .before .before .before .args .s .now) (c .before .before .before .before .before .before .before .before .before .args .from) (c .before .before .before .before .before .before .before .before .before .args .r .now) (c .before .before .before .before .before .before .before .before .before .args .out .now) (c .before .before .before .before .before .before .before .before .before .args .delivery .now) _ _ _ (sym (c .before .before .before .before .read-record .ensures) ∙ c .before .before .kind .given .1)
 
 pub plan-for-spec : {M : Type 1} → statement M
 plan-for-spec =
     tie.close
     (tie.spec
+    read-record-requires
+    enum-told
+    plan-by-requires
+    enum-known-kind
+    plan-by-requires-2
     returns
-    is-sound-requires
-    returns-2
-    read-table-requires
-    short-requires
-    returns-3
-    is-board-requires
-    returns-4
-    read-marks-requires
-    by-form-requires
-    returns-5)
+    returns-2)

@@ -79,7 +79,7 @@ loop-again c =
       omega (arith, loop-test .taken),
       λ b fs M f. let r = raised .ensures fs (fresh-leaf .ensures (fs (l .i)) (anew-leaf (a .area .now) (a .s) (a .points .now) (a .m .now) (a .ds .now) (a .len) b
           (a .row .now) (weights-at .last .1 .1 .1 .1 .0) (l .i + 1) (value-at .result) (fs (l .i)) M (subst (λ (z : ℕ). Anew (length (a .points .now)) (a .len) b
-          (a .row .now) z (fs (l .i))) (sym z) (f (l .i) (omega (arith, loop-test .taken)))) (weights-at .ensures) (value-at .ensures))) (l .inv .5 b fs M f .waits
+          (a .row .now) z (fs (l .i))) (sym z) (f (l .i) (omega (arith, loop-test .taken)))) (weights-at .ensures (M .product)) (value-at .ensures))) (l .inv .5 b fs M f .waits
           (omega (arith, loop-test .taken))) in record { waits = λ h. r .waits h; done = λ e. r .last e },
     )
 

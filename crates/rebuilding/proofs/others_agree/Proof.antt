@@ -65,7 +65,7 @@ loop-again c =
       good-next (a .area .now) (a .s) (a .points .now) (a .m .now) (a .ds .now) (s .pre .5) (s .pre .3)
           (λ i. omega (arith, c .before .before .before .before .before .before .before .before .before .before .before .before .before .before .before .before .before .before .shared-slice-known2 .given i)) (λ i. omega (arith, c .before .before .before .before .before .before .before .before .before .before .before .before .before .before .before .before .shared-slice-known4 .given i)) (s .pre .7)
           (λ i. omega (arith, c .before .before .before .before .before .before .before .before .before .before .before .before .before .before .before .before .before .before .before .shared-slice-known .given i)) (a .marked .now) (a .count) (s .pre .4)
-          (l .i) (w .last .1 .1 .1 .1 .0) (w .ensures) (l .inv .4) (g .ensures .0 (c .if1 .taken)),
+          (l .i) (w .last .1 .1 .1 .1 .0) (w .ensures (s .pre .5)) (l .inv .4) (g .ensures .0 (c .if1 .taken)),
     )
 
 same-length : tie.Need-same-length Inv-loop μ-loop
@@ -86,7 +86,7 @@ returns c =
           (λ i. omega (arith, c .before .before .before .before .before .before .before .before .before .before .before .before .before .before .before .before .before .before .shared-slice-known2 .given i)) (λ i. omega (arith, c .before .before .before .before .before .before .before .before .before .before .before .before .before .before .before .before .shared-slice-known4 .given i)) (s .pre .7)
           (λ i. omega (arith, c .before .before .before .before .before .before .before .before .before .before .before .before .before .before .before .before .before .before .before .shared-slice-known .given i)) (a .marked .now) (a .count) (s .pre .4)
           (l .i) (w .last .1 .1 .1 .1 .0)
-          (omega (arith, l .inv .0, c .before .before .before .before .before .before .before .before .before .before .before .loop-test .taken)) (w .ensures) (g .ensures .1 (c .if1 .left)),
+          (omega (arith, l .inv .0, c .before .before .before .before .before .before .before .before .before .before .before .loop-test .taken)) (w .ensures (s .pre .5)) (g .ensures .1 (c .if1 .left)),
     )
 
 same-length-3 : tie.Need-same-length-3 Inv-loop μ-loop

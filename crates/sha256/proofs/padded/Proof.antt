@@ -1,10 +1,9 @@
 -- `sha256::padded` meets its contract. Assumes nothing.
-use Prim.Native.Nat.{_+_}
-use mathlib.Core.List.{_++_}
 use mathlib.Core.Path.{sym}
+use mathlib.Core.List.{_++_}
 use native.Mathlib.Omega.{arith}
 use lib.ListN.{length-append}
-use Rattle.sha256.proofs.Padding.{length-pad, pad-head, pad-body}
+use Rattle.sha256.proofs.Padding.{pad-head, pad-body, pad-one, pad-zero}
 use borrow.Author.Needs.{needs}
 use Rattle.sha256.proofs.padded.Statement.{statement}
 use Rattle.sha256.proofs.padded.Tie as tie
@@ -16,27 +15,19 @@ shared-slice-read-result : tie.Need-shared-slice-read-result
 shared-slice-read-result c = search needs
 
 returns : tie.Need-returns
-returns c =
-    let a = c .before .before .before .before .args in
-    sym (pad-head (a .head .now) (a .body .now) (a .i) (omega arith))
+returns c = let a = c .before .before .args in sym (pad-head (a .head .now) (a .body .now) (a .i) (omega arith))
 
 shared-slice-read-result-2 : tie.Need-shared-slice-read-result-2
 shared-slice-read-result-2 c = search needs
 
 returns-2 : tie.Need-returns-2
-returns-2 c =
-    let a = c .before .before .before .before .before .args in
-    sym (pad-body (a .head .now) (a .body .now) (a .i) (omega arith) (omega arith))
-
-pad-byte-requires : tie.Need-pad-byte-requires
-pad-byte-requires c κs =
-    let a = c .before .before .before .before .args in
-    omega (arith, length-append (a .head .now) (a .body .now), length-pad (a .head .now ++ a .body .now))
+returns-2 c = let a = c .before .before .before .args in sym (pad-body (a .head .now) (a .body .now) (a .i) (omega arith) (omega arith))
 
 returns-3 : tie.Need-returns-3
-returns-3 c =
-    let a = c .before .before .before .before .before .args in
-    c .pad-byte .ensures (a .head .now ++ a .body .now) (length-append (a .head .now) (a .body .now))
+returns-3 c = let a = c .before .before .before .args in sym (pad-one (a .head .now ++ a .body .now) (a .i) (rw length-append (omega arith)))
+
+returns-4 : tie.Need-returns-4
+returns-4 c = let a = c .before .before .before .args in sym (pad-zero (a .head .now ++ a .body .now) (a .i) (rw length-append (omega arith)) (rw length-append (omega arith)))
 
 pub padded-spec : {M : Type 1} → statement M
 padded-spec =
@@ -47,5 +38,5 @@ padded-spec =
     returns
     shared-slice-read-result-2
     returns-2
-    pad-byte-requires
-    returns-3)
+    returns-3
+    returns-4)

@@ -7,17 +7,17 @@ use Rattle.sha256.proofs.turned_all.Statement.{statement}
 use Rattle.sha256.proofs.turned_all.Tie as tie
 
 abbrev Inv-loop : tie.InvT-loop
-Inv-loop w s₀ q₀ s q = (q ≤ 4) × (s ≡ rounds w (16 * q) s₀)
+Inv-loop w s₀ q₀ s q = (q ≤ 8) × (s ≡ rounds w (8 * q) s₀)
 
 abbrev μ-loop : tie.MeasureT-loop
-μ-loop w s₀ q₀ s q = 4 - q
+μ-loop w s₀ q₀ s q = 8 - q
 
 loop-holds : tie.Need-loop-holds Inv-loop μ-loop
 unfolding rounds
 loop-holds c = (omega arith, refl)
 
-turned-some-requires : tie.Need-turned-some-requires Inv-loop μ-loop
-turned-some-requires c κs = omega arith
+turned-eight-requires : tie.Need-turned-eight-requires Inv-loop μ-loop
+turned-eight-requires c κs = omega arith
 
 add-q : tie.Need-add-q Inv-loop μ-loop
 add-q c = omega arith
@@ -28,16 +28,16 @@ loop-less c = omega arith
 loop-again : tie.Need-loop-again Inv-loop μ-loop
 loop-again c = let a = c .before .before .before .args in
     let l = c .before .before .loop in
-    let e : 16 * l .q + 16 ≡ 16 * (l .q + 1) = omega arith in
-    (omega arith, c .turned-some .ensures (a .h) (l .inv .1) ∙ ap (λ (t : ℕ). rounds (a .w .now) t (a .h)) e)
+    let e : 8 * l .q + 8 ≡ 8 * (l .q + 1) = omega arith in
+    (omega arith, c .turned-eight .ensures (a .h) (l .inv .1) ∙ ap (λ (t : ℕ). rounds (a .w .now) t (a .h)) e)
 
 returns : tie.Need-returns Inv-loop μ-loop
 returns c = let a = c .before .before .args in
     let l = c .before .loop in
-    let e : 16 * l .q ≡ 64 = omega arith in
+    let e : 8 * l .q ≡ 64 = omega arith in
     l .inv .1 ∙ ap (λ (t : ℕ). rounds (a .w .now) t (a .h)) e
 
 pub turned-all-spec : {M : Type 1} → statement M
 turned-all-spec =
     tie.close
-    (tie.spec Inv-loop μ-loop loop-holds turned-some-requires add-q loop-less loop-again returns)
+    (tie.spec Inv-loop μ-loop loop-holds turned-eight-requires add-q loop-less loop-again returns)

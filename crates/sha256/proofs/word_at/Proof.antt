@@ -1,88 +1,52 @@
 -- `sha256::word_at` meets its contract. Assumes nothing.
+use borrow.Author.Tests.{leb-true}
+use mathlib.Core.List.{_++_}
+use mathlib.Core.Path.{_∙_}
 use native.Mathlib.Omega.{arith}
+use lib.ListN.{length-append}
+use Rattle.sha256.proofs.Padding.{length-pad}
+use Rattle.sha256.proofs.Blocks.{word-inside}
 use borrow.Author.Needs.{needs}
-use Rattle.sha256.specs.Sha256.{word}
 use Rattle.sha256.proofs.word_at.Statement.{statement}
 use Rattle.sha256.proofs.word_at.Tie as tie
 
-mul-i : tie.Need-mul-i
-mul-i c = search needs
+add-n : tie.Need-add-n
+add-n c = search needs
 
-shared-slice-read-wide : tie.Need-shared-slice-read-wide
-shared-slice-read-wide c = search needs
+add-if2 : tie.Need-add-if2
+add-if2 c = let a = c .before .before .before .args in omega (arith, length-append (a .head .now) (a .body .now), length-pad (a .head .now ++ a .body .now))
 
-wide-requires : tie.Need-wide-requires
-wide-requires c κs = search needs
+four-at-requires : tie.Need-four-at-requires
+four-at-requires c κs = omega (arith, leb-true)
 
-mul-result : tie.Need-mul-result
-mul-result c = search needs
-
-add-wide : tie.Need-add-wide
-add-wide c = search needs
-
-shared-slice-read-wide-2 : tie.Need-shared-slice-read-wide-2
-shared-slice-read-wide-2 c = search needs
-
-wide-requires-2 : tie.Need-wide-requires-2
-wide-requires-2 c κs = search needs
-
-mul-result-2 : tie.Need-mul-result-2
-mul-result-2 c = search needs
-
-add-result : tie.Need-add-result
-add-result c = search needs
-
-add-wide-2 : tie.Need-add-wide-2
-add-wide-2 c = search needs
-
-shared-slice-read-wide-3 : tie.Need-shared-slice-read-wide-3
-shared-slice-read-wide-3 c = search needs
-
-wide-requires-3 : tie.Need-wide-requires-3
-wide-requires-3 c κs = search needs
-
-mul-result-3 : tie.Need-mul-result-3
-mul-result-3 c = search needs
-
-add-result-2 : tie.Need-add-result-2
-add-result-2 c = search needs
-
-add-wide-3 : tie.Need-add-wide-3
-add-wide-3 c = search needs
-
-shared-slice-read-wide-4 : tie.Need-shared-slice-read-wide-4
-shared-slice-read-wide-4 c = search needs
-
-wide-requires-4 : tie.Need-wide-requires-4
-wide-requires-4 c κs = search needs
-
-add-result-3 : tie.Need-add-result-3
-add-result-3 c = search needs
+cast-result : tie.Need-cast-result
+cast-result c = search needs
 
 returns : tie.Need-returns
-unfolding word
-returns c = omega arith
+returns c = let a = c .before .before .before .before .before .args in c .four-at .ensures .0 ∙ word-inside (a .head .now) (a .body .now) (a .i) (omega arith) (omega (arith, leb-true))
+
+edge-word-requires : tie.Need-edge-word-requires
+edge-word-requires c κs = search needs
+
+returns-2 : tie.Need-returns-2
+returns-2 c = search needs
+
+pad-word-requires : tie.Need-pad-word-requires
+pad-word-requires c κs = let a = c .before .before .before .before .args in omega (arith, length-append (a .head .now) (a .body .now), length-pad (a .head .now ++ a .body .now))
+
+returns-3 : tie.Need-returns-3
+returns-3 c = let a = c .before .before .before .before .before .args in c .pad-word .ensures (a .head .now ++ a .body .now) (length-append (a .head .now) (a .body .now))
 
 pub word-at-spec : {M : Type 1} → statement M
 word-at-spec =
     tie.close
     (tie.spec
-    mul-i
-    shared-slice-read-wide
-    wide-requires
-    mul-result
-    add-wide
-    shared-slice-read-wide-2
-    wide-requires-2
-    mul-result-2
-    add-result
-    add-wide-2
-    shared-slice-read-wide-3
-    wide-requires-3
-    mul-result-3
-    add-result-2
-    add-wide-3
-    shared-slice-read-wide-4
-    wide-requires-4
-    add-result-3
-    returns)
+    add-n
+    add-if2
+    four-at-requires
+    cast-result
+    returns
+    edge-word-requires
+    returns-2
+    pad-word-requires
+    returns-3)

@@ -53,9 +53,9 @@ returns-7 c = let a = c .before .before .before .before .before .before .before 
 leaf-requires : tie.Need-leaf-requires
 leaf-requires c κs = search needs
 
-taken-up-requires : tie.Need-taken-up-requires
-taken-up-requires c κs = let a = c .before .before .before .before .before .before .before .before .before .before .before .before .args in
-    (omega arith, omega arith, omega (arith, depth-all (a .n) (a .i - 1) (omega arith) (omega arith)))
+climb-up-requires : tie.Need-climb-up-requires
+climb-up-requires c κs = let a = c .before .before .before .before .before .before .before .before .before .before .before .before .before .args in
+    (omega arith, omega arith, omega arith, omega (arith, depth-all (a .n) (a .i - 1) (omega arith) (omega arith)))
 
 slice-aggregate-same-at : tie.Need-slice-aggregate-same-at
 slice-aggregate-same-at c = search needs
@@ -65,12 +65,12 @@ same-at-requires c κs = search needs
 
 returns-8 : tie.Need-returns-8
 unfolding pathCorrect
-returns-8 c = let a = c .before .before .before .before .before .before .before .before .before .before .before .before .before .before .before .args in
+returns-8 c = let a = c .before .before .before .before .before .before .before .before .before .before .before .before .before .before .before .before .args in
     let count : length (a .path .now) ≡ 32 * depth (treeOf (a .n)) (a .i - 1) = omega (arith, depth-all (a .n) (a .i - 1) (omega arith) (omega arith)) in
-    let x = c .before .before .taken-up .result in
-    let hash : x ≡ climb sha256 (nodeOf (a .path .now)) (treeOf (a .n)) (a .i - 1) (a .f .now) = c .before .before .taken-up .ensures (a .f .now) (c .before .before .before .leaf .ensures) in
+    let x = c .before .before .climb-up .last .0 in
+    let hash : x ≡ climb sha256 (nodeOf (a .path .now)) (treeOf (a .n)) (a .i - 1) (a .f .now) = c .before .before .climb-up .ensures .1 (a .f .now) (c .before .before .before .before .leaf .ensures) in
     let last : c .same-at .result ≡ same (climb sha256 (nodeOf (a .path .now)) (treeOf (a .n)) (a .i - 1) (a .f .now)) (a .root .now) =
-    c .same-at .ensures ∙ ap₂ same (part-all 32 x (omega arith) ∙ hash) (part-all 32 (a .root .now) (omega arith)) in
+    c .same-at .ensures ∙ ap₂ same (part-all 32 x (c .before .before .climb-up .ensures .0) ∙ hash) (part-all 32 (a .root .now) (omega arith)) in
     search picks
 
 pub correct-spec : {M : Type 1} → statement M
@@ -87,7 +87,7 @@ correct-spec =
     mul-if7
     returns-7
     leaf-requires
-    taken-up-requires
+    climb-up-requires
     slice-aggregate-same-at
     same-at-requires
     returns-8)

@@ -46,8 +46,8 @@ returns c = λ fs hx s.
     (rising-stays (a .n) (a .i) (l .d) (a .x) (a .waiting .now) (l .y) (l .waiting) (omega arith) (omega arith) (omega arith) (l .inv .3)
     (ltb-true (a .i) m (and-l (ltb (a .i) m) (ltb m (a .n)) both)) (ltb-true m (a .n) (and-r (ltb (a .i) m) (ltb m (a .n)) both)) (omega arith) (omega arith) fs hx s)
 
-closed-requires : tie.Need-closed-requires Inv-loop μ-loop
-closed-requires c κs = omega arith
+close-requires : tie.Need-close-requires Inv-loop μ-loop
+close-requires c κs = omega arith
 
 add-d : tie.Need-add-d Inv-loop μ-loop
 add-d c = omega arith
@@ -56,13 +56,13 @@ loop-less : tie.Need-loop-less Inv-loop μ-loop
 loop-less c = omega arith
 
 loop-again : tie.Need-loop-again Inv-loop μ-loop
-loop-again c = let a = c .before .before .before .before .before .before .before .args in
-    let l = c .before .before .before .before .before .loop in (
+loop-again c = let a = c .before .before .before .before .before .before .before .before .args in
+    let l = c .before .before .before .before .before .before .loop in (
       omega arith,
+      c .close .ensures .0,
       omega arith,
-      omega arith,
-      rising-more (a .n) (a .i) (l .d) (a .x) (a .waiting .now) (l .y) (l .waiting) (omega arith) (omega arith) (omega arith) (l .inv .3) (c .closed .result)
-          (sym (c .before .before .before .stays .ensures) ∙ c .before .before .if1 .left) (c .closed .ensures),
+      rising-more (a .n) (a .i) (l .d) (a .x) (a .waiting .now) (l .y) (l .waiting) (omega arith) (omega arith) (omega arith) (l .inv .3) (c .close .last .0)
+          (sym (c .before .before .before .before .stays .ensures) ∙ c .before .before .before .if1 .left) (c .close .ensures .1),
     )
 
 same-length-2 : tie.Need-same-length-2 Inv-loop μ-loop
@@ -89,7 +89,7 @@ raised-spec =
     copy-at-requires
     same-length
     returns
-    closed-requires
+    close-requires
     add-d
     loop-less
     loop-again
