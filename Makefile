@@ -4,6 +4,7 @@ CC      = gcc
 CXX     = g++
 CFLAGS  = -std=c99 -Wall -Wextra -Wconversion -Werror -O2
 LIB     = build/libtumbeliko.a
+DRILL   = build/libdrill.a
 SEED    =
 RUNS    =
 FILE    = README.md
@@ -21,13 +22,13 @@ endif
 endif
 
 CRATES    = crates.txt $(wildcard crates/*/src/*.rt crates/*/specs/*.antt crates/*/proofs/*.antt crates/*/proofs/*/*.antt)
-REFERENCE = tests/reference/hash.c tests/reference/code.c tests/reference/board.c
+REFERENCE = tests/reference/hash.c tests/reference/code.c tests/reference/board.c tests/reference/drill.c
 HARNESS   = tests/harness.c
 TREES     = tests/trees.c
 LINE      = $(wildcard examples/line/*.c examples/line/*.h)
 FUZZ      = fuzz/fuzz.c fuzz/drawn.c fuzz/ground.c fuzz/board.c $(wildcard fuzz/drill.c)
 DRILLED   = $(if $(wildcard fuzz/drill.c),-DWITH_DRILL)
-HEADERS   = include/tumbeliko.h tests/harness.h tests/trees.h tests/reference/reference.h bench/plain.h bench/clock.h
+HEADERS   = include/tumbeliko.h include/drill.h tests/harness.h tests/trees.h tests/reference/reference.h bench/plain.h bench/clock.h
 BUILD     = $(CC) $(CFLAGS) $(CPPFLAGS) -Iinclude -Itests $(LINK)
 
 # Is there a header $(1), and does it link with $(2)?
@@ -37,13 +38,14 @@ KNOWN = $(if $(call have,openssl/sha.h,-lcrypto),-DHAVE_OPENSSL -lcrypto) \
         $(if $(call have,bearssl.h,-lbearssl),-DHAVE_BEARSSL -lbearssl) \
         $(if $(call have,isa-l/erasure_code.h,-lisal),-DHAVE_ISAL -lisal)
 
-.PHONY: help test lib demo line-demo bench growth stack soak fuzz clean tools
-.PHONY: library-test header-test reference-test vectors-test ground-test board-test line-test examples-test
+.PHONY: help test lib demo line-demo drill bench growth stack soak fuzz clean tools
+.PHONY: library-test header-test reference-test vectors-test ground-test board-test line-test drill-test examples-test
 
 help:
 	@echo "make test     everything: the prover's gate, then the tests in C against the library"
 	@echo "make demo     a message cut into fragments and rebuilt; then a file spread over a line of boards while the sender fails, and"
 	@echo "              again while it lies; a picture of each run in build/. FILE=path spreads another file"
+	@echo "make drill    the drill program, build/drill: a script of steps in, a line for each step out"
 	@echo "make lib      prove the library and write build/libtumbeliko.a"
 	@echo "make bench    times beside plain C and known libraries, and the stack of each call"
 	@echo "make growth   how the cost of a call grows with L and n: tables, and the plot docs/growth.svg"
@@ -53,7 +55,7 @@ help:
 	@echo "make clean    remove build/ and target/"
 	@echo
 	@echo "one part of the tests: library-test header-test reference-test vectors-test ground-test"
-	@echo "                       board-test line-test examples-test"
+	@echo "                       board-test line-test drill-test examples-test"
 	@echo "SEED=number   other random bytes for the tests in C"
 	@echo "RUNS=number   how many runs of lines; 20,000 if not given"
 	@echo "LIB=path      another archive"
@@ -71,6 +73,11 @@ build/libtumbeliko.a: $(CRATES) | build
 	@echo "proving the library (minutes, where nothing is proved yet); the prover's words go to build/staticlib.log"
 	@rt staticlib tumbeliko > build/staticlib.log 2>&1 || { tail -n 40 build/staticlib.log; exit 1; }
 	@cp target/staticlib/libtumbeliko.a $@
+
+build/libdrill.a: $(CRATES) | build
+	@echo "proving the drill (minutes, where nothing is proved yet); the prover's words go to build/drill-staticlib.log"
+	@rt staticlib drill > build/drill-staticlib.log 2>&1 || { tail -n 40 build/drill-staticlib.log; exit 1; }
+	@cp target/staticlib/libdrill.a $@
 
 lib: build/libtumbeliko.a
 	@echo "the library is build/libtumbeliko.a, its header include/tumbeliko.h"
@@ -94,6 +101,14 @@ build/board-test: tests/board.c $(TREES) $(HARNESS) $(REFERENCE) $(HEADERS) $(LI
 build/line-test: tests/line.c $(TREES) $(HARNESS) $(REFERENCE) $(HEADERS) $(LIB) | build $(TOOLS)
 	@echo "building $@ with $(LIB)"
 	@$(BUILD) tests/line.c $(TREES) $(HARNESS) $(REFERENCE) $(LIB) $(LDFLAGS) -o $@
+
+build/drill-test: tests/drill.c $(TREES) $(HARNESS) $(REFERENCE) $(HEADERS) $(DRILL) | build $(TOOLS)
+	@echo "building $@ with $(DRILL)"
+	@$(BUILD) tests/drill.c $(TREES) $(HARNESS) $(REFERENCE) $(DRILL) $(LDFLAGS) -o $@
+
+build/drill: examples/drill.c include/drill.h $(DRILL) | build $(TOOLS)
+	@echo "building $@ with $(DRILL)"
+	@$(BUILD) examples/drill.c $(DRILL) $(LDFLAGS) -o $@
 
 ifeq ($(TOOLS),)
 build/bench: bench/bench.c bench/clock.c bench/plain.c $(REFERENCE) $(HEADERS) $(LIB) | build
@@ -161,6 +176,7 @@ library-test: lib
 header-test:
 	@echo "the header alone, as C and as C++"
 	@$(CC) $(CFLAGS) -pedantic -fsyntax-only -x c include/tumbeliko.h
+	@$(CC) $(CFLAGS) -pedantic -fsyntax-only -x c include/drill.h
 	@if command -v $(CXX) >/dev/null; then $(CXX) -Wall -Wextra -Wconversion -Werror -pedantic \
 	    -fsyntax-only -x c++ include/tumbeliko.h; else echo "$(CXX) is not here: not tried as C++"; fi
 	@echo "1 passed, 0 failed"
@@ -179,6 +195,11 @@ board-test: build/board-test
 
 line-test: build/line-test
 	@$(RUN) build/line-test $(or $(RUNS),20000) $(SEED)
+
+drill-test: build/drill-test build/drill
+	@printf '1 0 1 16\n0\n1 41\n3\ns 1 1\ne 1 1\nv 1 1\n' | $(RUN) build/drill > build/drill.log
+	@printf 'step kind from to answer act outcome\n1 s 1 1 0 e -\n2 e 1 1 0 v -\n3 v 1 1 0 - m41\n' | cmp - build/drill.log
+	@$(RUN) build/drill-test $(SEED)
 
 examples-test: build/demo build/seven build/line-demo
 	@RUN="$(RUN)" sh tests/examples.sh
@@ -214,6 +235,9 @@ endif
 stack: build/stack
 	@echo "stack of each call, painted"
 	@$(RUN) build/stack
+
+drill: build/drill
+	@echo "the drill program is build/drill: it reads a drill from standard input$(if $(RUN), (run it by $(RUN)))"
 
 demo: build/demo build/line-demo
 	@$(RUN) build/demo

@@ -50,6 +50,7 @@ part vectors make --no-print-directory vectors-test
 part ground make --no-print-directory ground-test
 part board make --no-print-directory board-test
 part line make --no-print-directory line-test
+part drill make --no-print-directory drill-test
 part examples make --no-print-directory examples-test
 
 echo "$passed passed, $failed failed"

@@ -101,4 +101,10 @@ bool ref_sound(const ref_board *board);
  * fragment are read as far as state_len goes; those beyond are 0. */
 void ref_decode(const uint8_t *state, size_t state_len, ref_board *board);
 
+/* drill.c: what the drill prints for this input, into `text`; its length */
+
+#define REF_TEXT 160000
+
+size_t ref_drill(const char *input, size_t input_len, char *text);
+
 #endif

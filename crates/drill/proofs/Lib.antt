@@ -1,0 +1,7 @@
+-- Laws of `drill`: Prints of text one after the other, Nexts of the next line, Goings of the steps, Openings of the four lines before them, Promises of the call.
+pub mod Prints
+pub mod Nexts
+pub mod Goings
+pub mod Openings
+pub mod Promises
+pub mod Prefix

@@ -1,0 +1,5 @@
+-- What the contracts of `drill` cite. To be read: Text, Drill and Call. Asked is what its functions ask of one another.
+pub mod Text
+pub mod Drill
+pub mod Call
+pub mod Asked

@@ -1,0 +1,2 @@
+-- What the contracts of `script` cite.
+pub mod Lines

@@ -1,0 +1,4 @@
+pub mod Finding
+pub mod Counting
+pub mod Storing
+pub mod Digits

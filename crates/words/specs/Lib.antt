@@ -1,0 +1,3 @@
+-- What the contracts of `words` cite.
+pub mod Words
+pub mod Numbers
