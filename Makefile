@@ -26,8 +26,7 @@ REFERENCE = tests/reference/hash.c tests/reference/code.c tests/reference/board.
 HARNESS   = tests/harness.c
 TREES     = tests/trees.c
 LINE      = $(wildcard examples/line/*.c examples/line/*.h)
-FUZZ      = fuzz/fuzz.c fuzz/drawn.c fuzz/ground.c fuzz/board.c $(wildcard fuzz/drill.c)
-DRILLED   = $(if $(wildcard fuzz/drill.c),-DWITH_DRILL)
+FUZZ      = fuzz/fuzz.c fuzz/drawn.c fuzz/ground.c fuzz/board.c fuzz/drill.c
 HEADERS   = include/tumbeliko.h include/drill.h tests/harness.h tests/trees.h tests/reference/reference.h bench/plain.h bench/clock.h
 BUILD     = $(CC) $(CFLAGS) $(CPPFLAGS) -Iinclude -Itests $(LINK)
 
@@ -137,18 +136,18 @@ build/growth: bench/growth.c bench/clock.c $(HEADERS) $(LIB) | build $(TOOLS)
 	@$(BUILD) bench/growth.c bench/clock.c $(LIB) $(LDFLAGS) -o $@
 
 # The search runs on this machine; the library is in it where it can be, and in the replay always.
-build/fuzz/find: fuzz/find.c $(FUZZ) fuzz/fuzz.h $(TREES) $(REFERENCE) $(HEADERS) $(if $(TOOLS),,$(LIB)) | build
+build/fuzz/find: fuzz/find.c $(FUZZ) fuzz/fuzz.h $(TREES) $(REFERENCE) $(HEADERS) $(if $(TOOLS),,$(LIB) $(DRILL)) | build
 	@sh fuzz/tools.sh > /dev/null
 	@echo "building $@"
 	@mkdir -p build/fuzz
 	@clang -std=c99 -Wall -Wextra -Werror -O2 -g -fsanitize=fuzzer,address,undefined -fno-sanitize-recover=undefined \
-	    $(DRILLED) $(if $(TOOLS),,-DWITH_LIBRARY) -Iinclude -Itests -Ifuzz fuzz/find.c $(FUZZ) $(TREES) $(REFERENCE) \
-	    $(if $(TOOLS),,$(LIB)) -o $@
+	    $(if $(TOOLS),,-DWITH_LIBRARY) -Iinclude -Itests -Ifuzz fuzz/find.c $(FUZZ) $(TREES) $(REFERENCE) \
+	    $(if $(TOOLS),,$(LIB) $(DRILL)) -o $@
 
-build/fuzz/replay: fuzz/replay.c $(FUZZ) fuzz/fuzz.h $(TREES) $(REFERENCE) $(HEADERS) $(LIB) | build $(TOOLS)
-	@echo "building $@ with $(LIB)"
+build/fuzz/replay: fuzz/replay.c $(FUZZ) fuzz/fuzz.h $(TREES) $(REFERENCE) $(HEADERS) $(LIB) $(DRILL) | build $(TOOLS)
+	@echo "building $@ with $(LIB) and $(DRILL)"
 	@mkdir -p build/fuzz
-	@$(BUILD) -Ifuzz $(DRILLED) -DWITH_LIBRARY fuzz/replay.c $(FUZZ) $(TREES) $(REFERENCE) $(LIB) $(LDFLAGS) -o $@
+	@$(BUILD) -Ifuzz -DWITH_LIBRARY fuzz/replay.c $(FUZZ) $(TREES) $(REFERENCE) $(LIB) $(DRILL) $(LDFLAGS) -o $@
 
 build/fuzz/corpus: fuzz/seeds.sh
 	@sh fuzz/seeds.sh $@

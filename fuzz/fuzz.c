@@ -8,10 +8,7 @@ static const struct {
     { "hash", try_hash }, { "path check", try_path }, { "encode", try_encode }, { "rebuild", try_rebuild },
     { "read block", try_read_block }, { "read record", try_read_record }, { "damaged record", try_damaged_record },
     { "write record", try_write_record }, { "send", try_send }, { "start", try_start }, { "step", try_steps },
-    { "step, damaged state", try_damaged_state },
-#ifdef WITH_DRILL
-    { "drill", try_drill },
-#endif
+    { "step, damaged state", try_damaged_state }, { "drill", try_drill },
 };
 
 #define CALLS (sizeof calls / sizeof *calls)

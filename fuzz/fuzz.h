@@ -8,6 +8,7 @@
  *   drawn.c     arguments drawn from the input's bytes; buffers between inaccessible pages
  *   ground.c    hash, path check, encode, rebuild, read block
  *   board.c     records, start, send, step
+ *   drill.c     the drill
  *   find.c      libFuzzer's entry: finds inputs, guided by the reference's coverage
  *   replay.c    hands found inputs, and changed ones, to both
  */
@@ -68,10 +69,8 @@ void try_start(void);
 void try_steps(void);
 void try_damaged_state(void);
 
-/* A hook: fuzz/drill.c, if it is there, has this one. It draws the drill's
- * text by draw_rest() and holds the printed lines against a second drill's. */
-#ifdef WITH_DRILL
+/* ---- drill.c: a whole drill */
+
 void try_drill(void);
-#endif
 
 #endif
