@@ -177,7 +177,7 @@ header-test:
 	@$(CC) $(CFLAGS) -pedantic -fsyntax-only -x c include/tumbeliko.h
 	@$(CC) $(CFLAGS) -pedantic -fsyntax-only -x c include/drill.h
 	@if command -v $(CXX) >/dev/null; then $(CXX) -Wall -Wextra -Wconversion -Werror -pedantic \
-	    -fsyntax-only -x c++ include/tumbeliko.h; else echo "$(CXX) is not here: not tried as C++"; fi
+	    -fsyntax-only -x c++ include/tumbeliko.h include/drill.h; else echo "$(CXX) is not here: not tried as C++"; fi
 	@echo "1 passed, 0 failed"
 
 reference-test: build/reference-test
