@@ -225,8 +225,9 @@ static void draw_all(uint64_t end)
 {
     double wide = LEFT + WIDTH + RIGHT, high = TOP + row * play.n + BOTTOM;
 
-    fprintf(to, "<svg xmlns=\"http://www.w3.org/2000/svg\" viewBox=\"0 0 %.0f %.0f\" width=\"%.0f\" height=\"%.0f\">\n"
-            "<title>%u boards spread a file</title>\n%s<defs>\n", wide, high, wide, high, play.n, style);
+    /* without a width of its own a browser fits it into the window */
+    fprintf(to, "<svg xmlns=\"http://www.w3.org/2000/svg\" viewBox=\"0 0 %.0f %.0f\">\n"
+            "<title>%u boards spread a file</title>\n%s<defs>\n", wide, high, play.n, style);
     draw_head("s", "#1f6fc4");
     draw_head("e", "#12927f");
     draw_head("v", "#8a45c2");
