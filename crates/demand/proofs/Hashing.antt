@@ -19,7 +19,7 @@ use Rattle.spread.specs.Step.{vote, Line, State, Act, take}
 use Rattle.spread.specs.Step as Spread
 use Rattle.spread.specs.Hashed.{freshIn, hashedBy}
 use Rattle.parts.specs.Parts.{codeOf, lineOf}
-use Rattle.parts.proofs.Truths.{is-true}
+use Rattle.line.proofs.Tests.{is-true}
 use Rattle.demand.specs.Strings.{pathStrings, deliveryStrings, planStrings}
 use Rattle.demand.proofs.Shown.{shownOf}
 use Rattle.demand.proofs.Settled.{half, ends-is}

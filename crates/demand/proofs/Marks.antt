@@ -23,11 +23,10 @@ use Rattle.state.proofs.Views.{vote-new, vote-old, vote-echoes, vote-len, vote-
 use Rattle.board.specs.Stepped.{marked, votedNow, outputNow, endsNow, ended, settledTo}
 use Rattle.line.specs.Core.{Word, Core, setAt, setWord}
 use Rattle.line.specs.Core as Core
-use Rattle.line.proofs.Tests.{off}
+use Rattle.line.proofs.Tests.{off, is-true}
 use Rattle.spread.specs.Step.{send, echo, vote, Line, State, take, afterAct}
 use Rattle.spread.specs.Step as Spread
 use Rattle.parts.specs.Parts.{codeOf, lineOf}
-use Rattle.parts.proofs.Truths.{is-true}
 use Rattle.demand.proofs.Shown.{spokeIn, setIn, rootAt, coreOf, fragmentIn, shownOf}
 use Rattle.demand.proofs.Settled.{usable-inside, echo-below, vote-below, length-below, half}
 

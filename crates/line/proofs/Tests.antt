@@ -2,7 +2,7 @@
 use Prim.Native.Nat.{ℕ}
 use native.Mathlib.Omega.{arith}
 use mathlib.Core.Bool.{Bool, true, false, not, _&&_, _||_}
-use mathlib.Core.Path.{_≡_, refl}
+use mathlib.Core.Path.{_≡_, refl, sym, subst}
 use mathlib.Core.Logic.{_⊎_, inl, inr}
 use mathlib.Core.Option.{some, none}
 use lib.Dec.{T}
@@ -21,6 +21,9 @@ pub right : (a b : Bool) → T (a && b) → T b
 right true true s = tt
 right true false s = s
 right false b s = absurd s
+
+pub holds : (b : Bool) → b ≡ true → T b
+holds b e = subst T (sym e) tt
 
 pub is-true : (b : Bool) → T b → b ≡ true
 is-true true h = refl

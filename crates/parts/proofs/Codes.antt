@@ -26,7 +26,7 @@ use Rattle.line.specs.Boards.{count, Board}
 use Rattle.spread.specs.Hashed.{Clash}
 use Rattle.spread.specs.Laws.{CodeLaws}
 use Rattle.parts.specs.Parts.{bytes, bitsOf, Message, codeOf}
-use Rattle.parts.proofs.Truths.{holds, is-true}
+use Rattle.line.proofs.Tests.{holds, is-true}
 use Rattle.parts.proofs.ByteLaws.{all-bytes, bytes-all, byte-at}
 use Rattle.parts.proofs.Results.{bits-few, bits-has, bits-ones, first-of, fresh-coded, message-proper}
 

@@ -1,5 +1,4 @@
 -- Laws of hash, tree, code and records of one table, as the fragment broadcast asks for them.
-pub mod Truths
 pub mod ByteLaws
 pub mod Encodings
 pub mod Records

@@ -13,7 +13,7 @@ use Rattle.boards.proofs.Within.{within}
 use Rattle.spread.specs.Step.{send, echo, vote}
 use Rattle.spread.specs.Laws.{LineLaws}
 use Rattle.parts.specs.Parts.{ofKind, readRecord, writeRecord, lineOf}
-use Rattle.parts.proofs.Truths.{holds, is-true}
+use Rattle.line.proofs.Tests.{holds, is-true}
 use Rattle.parts.proofs.Records.{Good, read-written, send-good, echo-good, vote-good, good-echo, good-vote}
 
 -- ---- by kinds
