@@ -20,7 +20,7 @@ use Rattle.board.specs.Planned.{planOf}
 use Rattle.board.specs.Stepped.{rootOf, marked, kept, settledTo, leaves}
 use Rattle.board.proofs.KeptLaws.{kept-length, kept-table, kept-own}
 use Rattle.board.proofs.StepSound.{step-sound}
-use Rattle.step.specs.Step.{good, delivered, takenOf, byPlan, stepOf}
+use Rattle.step.specs.Step.{good, delivered, saidBy, takenOf, byPlan, stepOf}
 use Rattle.line.specs.Run.{hand}
 use Rattle.spread.specs.Step.{Line, State, Act, act, afterAct}
 use Rattle.spread.specs.Step as Spread
@@ -54,7 +54,7 @@ pub record Stays (s o d s2 o2 d2 : List ℕ) : Type 0 where
 
 module _ (s : List ℕ) (from : ℕ) (r o d : List ℕ) (so : sound (view s) ≡ true) where
   stays-by : (x : Plan) → planOf s from r o d ≡ x → Stays s o d (byPlan x s from r o d .state) (byPlan x s from r o d .out) (byPlan x s from r o d .delivery)
-  unfolding byPlan takenOf leaves
+  unfolding byPlan takenOf leaves saidBy
   stays-by (Refuse q) e = record { table = refl; own = refl; size = refl; out = refl; delivery = refl; still-sound = so }
   stays-by (Take k p f) e =
       let b = tableOf s in

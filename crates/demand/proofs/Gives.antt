@@ -13,7 +13,7 @@ use Rattle.board.specs.declared.Plan.{Plan}
 use Rattle.board.specs.Planned.{planOf}
 use Rattle.board.specs.Stepped.{rootOf, endsNow}
 use Rattle.board.proofs.Taken.{Taken, taken}
-use Rattle.step.specs.Step.{placeOf, good, takenOf, byPlan}
+use Rattle.step.specs.Step.{placeOf, good, saidBy, takenOf, byPlan}
 use Rattle.step.specs.Step as Step
 use Rattle.step.proofs.Taking.{limited}
 use Rattle.spread.specs.Step.{vote, Line, State, Act, take}
@@ -42,7 +42,7 @@ module _ (s : List ℕ) (from : ℕ) (r o d : List ℕ) where
       (some (Step.resultIn b (markedBy s from r o d k ok) (keptBy s from r o d k p f) (rootOf r))) none
 
   give-at : (k p f : ℕ) → Taken s from r o d k p f → givenIn (takenOf k p f s from r o d) ≡ givenBy k (good k p f from r s) p f
-  unfolding takenOf
+  unfolding takenOf saidBy
   give-at k p f t =
       let ok = good k p f from r s in
       let m = markedBy s from r o d k ok in

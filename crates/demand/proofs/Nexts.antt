@@ -23,7 +23,7 @@ use Rattle.board.specs.Planned.{isAgain, planOf}
 use Rattle.board.specs.Stepped.{rootOf, pathOf, fragmentOf, marked, kept, ended, settledTo, leaves}
 use Rattle.board.proofs.Taken.{Taken, taken, fragment-room}
 use Rattle.board.proofs.StepSound.{fit, settled-sounds}
-use Rattle.step.specs.Step.{placeOf, good, takenOf, byPlan}
+use Rattle.step.specs.Step.{placeOf, good, saidBy, takenOf, byPlan}
 use Rattle.step.proofs.Records.{root-length, fragment-length}
 use Rattle.step.proofs.Taking.{formed, long-still}
 use Rattle.line.specs.Core.{Word}
@@ -189,7 +189,7 @@ module _ (s : List ℕ) (from : ℕ) (r o d : List ℕ) where
   -- whatever the plan
   pub next-by : (x : Plan) (a : Act B) → planOf s from r o d ≡ x → Follow b from r x a
       → shownOf b own (marksOf (byPlan x s from r o d .state)) (byPlan x s from r o d .state) ≡ afterAct B S a
-  unfolding byPlan takenOf good placeOf pick
+  unfolding byPlan takenOf good placeOf pick saidBy
   next-by x a e refuses = refl
   next-by x a e (sends {p} {f}) = send-next p f (taken s from r o d 1 p f e) (good 1 p f from r s)
   next-by x a e (echoes {p} {f}) = echo-next p f (taken s from r o d 2 p f e)

@@ -18,7 +18,7 @@ use Rattle.board.specs.Planned.{planOf}
 use Rattle.board.specs.Stepped.{rootOf, pathOf, fragmentOf, marked, due, votedNow}
 use Rattle.board.proofs.Taken.{Taken, taken}
 use Rattle.step.specs.Asked.{Formed}
-use Rattle.step.specs.Step.{placeOf, good, putOut, takenOf, byPlan}
+use Rattle.step.specs.Step.{placeOf, good, putOut, saidBy, takenOf, byPlan}
 use Rattle.step.proofs.Records.{root-length, path-length, echo-length}
 use Rattle.step.proofs.Taking.{formed}
 use Rattle.line.specs.Core.{Word, Core}
@@ -98,7 +98,7 @@ module _ (s : List ℕ) (from : ℕ) (r o d : List ℕ) where
 
   put-at : (k p f : ℕ) → Taken s from r o d k p f
       → putIn (takenOf k p f s from r o d) ≡ unless-empty (putOut (eqb k 1 && good k p f from r s) (votesBy k (good k p f from r s) p f) p f r)
-  unfolding takenOf
+  unfolding takenOf saidBy
   put-at k p f t =
       let ok = good k p f from r s in
       record-is (putOut (eqb k 1 && ok) (votesBy k ok p f) p f r) o

@@ -21,7 +21,7 @@ use Rattle.board.proofs.Taken.{Taken, taken, listed}
 use Rattle.delivery.specs.Delivered.{Left, leftBy, resultOf}
 use Rattle.delivery.proofs.Results.{result-root}
 use Rattle.step.specs.Asked.{Formed}
-use Rattle.step.specs.Step.{Outcome, good, putOut, usableFor, keptOf, delivered, resultIn, takenOf, byPlan, stepOf}
+use Rattle.step.specs.Step.{Outcome, good, putOut, usableFor, keptOf, delivered, resultIn, saidBy, takenOf, byPlan, stepOf}
 use Rattle.step.proofs.Taking.{formed}
 use Rattle.step.proofs.Records.{echo-length, root-length}
 use Rattle.record.proofs.Round.{vote-length}
@@ -46,7 +46,7 @@ size-by true (some m) d l h = h m refl
 
 module _ (s : List ℕ) (from : ℕ) (r o d : List ℕ) (ls : length s ≡ 5084) (ld : length d ≡ 64) where
   taken-bounded : (k p f : ℕ) → Taken s from r o d k p f → Bounded (takenOf k p f s from r o d)
-  unfolding takenOf stateSize resultIn
+  unfolding takenOf stateSize resultIn saidBy
   taken-bounded k p f t =
       let b = tableOf s in
       let lim = sound-limits (view s) (t .sound) in

@@ -26,7 +26,7 @@ use Rattle.board.specs.Planned.{planOf}
 use Rattle.board.specs.Stepped.{rootOf, marked, kept, votedNow, endsNow}
 use Rattle.board.proofs.Taken.{Taken, taken, not-done}
 use Rattle.board.proofs.StepSound.{settled-sounds}
-use Rattle.step.specs.Step.{Outcome, good, putOut, resultIn, delivered, takenOf, byPlan, stepOf}
+use Rattle.step.specs.Step.{Outcome, good, putOut, resultIn, delivered, saidBy, takenOf, byPlan, stepOf}
 use Rattle.figure.specs.Figure.{Piece, echo, vote, Figure, receive, usables, voting, At, votes-by-echoes, votes-by-votes, Still}
 use Rattle.figure.specs.Shown.{figureOf, pieceOf, messageOf}
 use Rattle.figure.proofs.Counts.{clash, vote-one, usables-fewer}
@@ -113,7 +113,7 @@ module _ (s : List ℕ) (from : ℕ) (r o d : List ℕ) (p f : ℕ) where
       (subst (λ (x : Figure). kOf b ≤ ones (usables b x root)) (vote-shown s from r o d p f t) k)
 
   by-kind : (k : ℕ) → 1 ≤ k → k ≤ 3 → Taken s from r o d k p f → Either (takenOf k p f s from r o d)
-  unfolding Either takenOf endsNow delivered marked pick
+  unfolding Either takenOf endsNow delivered marked pick saidBy
   by-kind zero l h t = absurd (omega arith)
   by-kind (suc zero) l h t = inr refl
   by-kind (suc (suc zero)) l h t =

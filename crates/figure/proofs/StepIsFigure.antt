@@ -25,7 +25,7 @@ use Rattle.board.proofs.Taken.{Taken, taken, not-done, fragment-room}
 use Rattle.board.proofs.KeptLaws.{kept-length, kept-table}
 use Rattle.board.proofs.StepSound.{fit, settled-sounds}
 use Rattle.delivery.specs.Delivered.{Left}
-use Rattle.step.specs.Step.{outcome, stepped, good, placeOf, putOut, resultIn, delivered, takenOf, byPlan, stepOf}
+use Rattle.step.specs.Step.{outcome, stepped, good, placeOf, putOut, resultIn, delivered, saidBy, takenOf, byPlan, stepOf}
 use Rattle.step.proofs.Records.{root-length, path-length, fragment-length}
 use Rattle.step.proofs.Taking.{formed}
 use Rattle.figure.specs.Figure.{Piece, echo, sends, Figure, correct, receive, At, acquire, Still, Fires}
@@ -121,14 +121,14 @@ module _ (s : List ℕ) (from : ℕ) (r o d : List ℕ) (p f : ℕ) where
       rw (number 3 t) at (vote-received b m0 s i (old 3 t) (t .long) (low 3 t) root (good 3 p f from r s) (root-length r p f h) (t .allowed .again))
 
   echo-figured : Taken s from r o d 2 p f → AsFigure s from r o d 2 p f (takenOf 2 p f s from r o d)
-  unfolding takenOf messageOf marked pick
+  unfolding takenOf messageOf marked pick saidBy
   echo-figured t =
       let ok = good 2 p f from r s in
       words 2 (marked 2 i ok m0) (kept (sMax b) 2 i p f r s) (leaves ok 2 p f from r s) (settled-sounds s from r o d ok 2 p f t) (not-done t)
       (output-voted m0 (old 2 t .flags)) (left-shown 2 t ok) (echo-shown t) (only-echo b own from (figureOf s) (still 2 t) refl (not-done t) piece) _ _ refl refl
 
   vote-figured : Taken s from r o d 3 p f → AsFigure s from r o d 3 p f (takenOf 3 p f s from r o d)
-  unfolding takenOf messageOf marked pick
+  unfolding takenOf messageOf marked pick saidBy
   vote-figured t =
       let ok = good 3 p f from r s in
       words 3 (marked 3 i ok m0) (kept (sMax b) 3 i p f r s) (leaves ok 3 p f from r s) (settled-sounds s from r o d ok 3 p f t) (not-done t)
@@ -180,7 +180,7 @@ module _ (s : List ℕ) (from : ℕ) (r o d : List ℕ) (p f : ℕ) where
     send-received = rw from-sender
 
     send-figured : AsFigure s from r o d 1 p f (takenOf 1 p f s from r o d)
-    unfolding takenOf good placeOf votedNow endsNow marked pick
+    unfolding takenOf good placeOf votedNow endsNow marked pick saidBy
     send-figured =
         let h = formed s from r o d 1 p f t in
         let ok = correct b own piece in

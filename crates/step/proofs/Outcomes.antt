@@ -28,13 +28,13 @@ use Rattle.board.proofs.Taken.{Taken, taken, listed}
 use Rattle.board.proofs.StepSound.{step-sound}
 use Rattle.step.specs.declared.Stepped.{Stepped}
 use Rattle.step.specs.Asked.{Formed}
-use Rattle.step.specs.Step.{outcome, refused, good, putOut, takenOf, byPlan, stepOf}
+use Rattle.step.specs.Step.{outcome, refused, good, putOut, saidBy, takenOf, byPlan, stepOf}
 use Rattle.step.proofs.Records.{root-length, path-length, fragment-length, echo-length}
 use Rattle.step.proofs.Taking.{formed}
 
 module _ (s : List ℕ) (from : ℕ) (r o d : List ℕ) where
   keeps : (x : Plan) → (byPlan x s from r o d .answer .number ≡ 0 → ⊥) → byPlan x s from r o d ≡ refused (byPlan x s from r o d .answer .number) s o d
-  unfolding byPlan takenOf
+  unfolding byPlan takenOf saidBy
   keeps (Refuse q) h = refl
   keeps (Take k p f) h = absurd (h refl)
 
@@ -51,7 +51,7 @@ module _ (s : List ℕ) (from : ℕ) (r o d : List ℕ) where
       (ap (λ w. w .answer) z, ap (λ w. w .state) z, ap (λ w. w .out) z, ap (λ w. w .delivery) z)
 
   sound-by : (x : Plan) → planOf s from r o d ≡ x → byPlan x s from r o d .answer .number ≡ 0 → sound (view (byPlan x s from r o d .state)) ≡ true
-  unfolding byPlan takenOf
+  unfolding byPlan takenOf saidBy
   sound-by (Refuse q) e h = let l = listed s from r o d q e in absurd (omega (arith, l .0, h))
   sound-by (Take k p f) e h = step-sound s from r o d (good k p f from r s) k p f e
 
@@ -122,7 +122,7 @@ module _ (s : List ℕ) (from : ℕ) (r o d : List ℕ) (k p f : ℕ) where
   sent t e = let z : k ≡ 1 = eqb-true k 1 (and-l (eqb k 1) _ e) in rw z at (whole r k p f (t .form) .fragment-ok)
 
   put-by : Taken s from r o d k p f → (w : List ℕ) × Put r p f o (takenOf k p f s from r o d .answer .«record_length») (takenOf k p f s from r o d .out) w
-  unfolding takenOf
+  unfolding takenOf saidBy
   put-by t =
       let h = formed s from r o d k p f t in (
         putOut echoes votes p f r,

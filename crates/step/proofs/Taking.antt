@@ -29,8 +29,8 @@ use Rattle.board.proofs.KeptLaws.{kept-length, kept-table}
 use Rattle.board.proofs.StepSound.{fit, settled-sounds}
 use Rattle.delivery.specs.declared.Delivered.{Delivered}
 use Rattle.delivery.specs.Delivered.{left, resultOf}
-use Rattle.step.specs.Asked.{Formed, Deliverable, saidBy}
-use Rattle.step.specs.Step.{stepped, outcome, good, putOut, usableFor, keptOf, resultIn, delivered, takenOf}
+use Rattle.step.specs.Asked.{Formed, Deliverable}
+use Rattle.step.specs.Step.{stepped, outcome, good, putOut, saidBy, usableFor, keptOf, resultIn, delivered, takenOf}
 
 -- of a usable echo the length kept is from 1 to max
 length-in : (u e : Bool) (l max : ℕ) → ((not u || e) && pick e (leb 1 l && leb l max) (eqb l 0)) ≡ true → u ≡ true → (1 ≤ l) × (l ≤ max)

@@ -28,11 +28,3 @@ pub record Deliverable (b : Table) (m : Marks) (s r d : List ℕ) (ends : Bool) 
   pub longest : b .longest ≤ length d
   pub due : ends ≡ true → enough b m s (rootOf r) ≡ true
   pub lengths : (i : ℕ) → i < 64 → has (m .usable) i ≡ true → (1 ≤ twoAt s (lenAt i)) × (twoAt s (lenAt i) ≤ sMax b)
-
--- what is put out once a record of kind k is kept, by whether its path is correct; as takenOf has it
-unfoldable pub saidBy : Bool → ℕ → ℕ → ℕ → ℕ → List ℕ → List ℕ → List ℕ
-saidBy ok k p f from r s =
-    let b = tableOf s in
-    let m = marked k (from - 1) ok (marksOf s) in
-    let s1 = kept (sMax b) k (from - 1) p f r s in
-    putOut (eqb k 1 && ok) (not (m .voted) && votedNow b (not (eqb k 1)) m s1 (rootOf r)) p f r

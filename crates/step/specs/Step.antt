@@ -70,6 +70,14 @@ resultIn b m s root = resultOf b root (usableFor b m s root) (keptOf (sMax b) s)
 unfoldable pub delivered : Bool → Option (List ℕ) → List ℕ → Left
 delivered ends result d = pick ends (leftBy result d) (record { kind = 0; size = 0; buffer = d })
 
+-- what is put out once a record of kind k is kept, by whether its path is correct: an echo at a send, or a vote that is due now
+unfoldable pub saidBy : Bool → ℕ → ℕ → ℕ → ℕ → List ℕ → List ℕ → List ℕ
+saidBy ok k p f from r s =
+    let b = tableOf s in
+    let m = marked k (from - 1) ok (marksOf s) in
+    let s1 = kept (sMax b) k (from - 1) p f r s in
+    putOut (eqb k 1 && ok) (not (m .voted) && votedNow b (not (eqb k 1)) m s1 (rootOf r)) p f r
+
 -- what a record of kind k from a board leaves, with p path nodes and f fragment bytes, once it is taken
 unfoldable pub takenOf : ℕ → ℕ → ℕ → List ℕ → ℕ → List ℕ → List ℕ → List ℕ → Outcome
 takenOf k p f s from r o d =
@@ -77,9 +85,8 @@ takenOf k p f s from r o d =
     let yes = good k p f from r s in
     let m = marked k (from - 1) yes (marksOf s) in
     let s1 = kept (sMax b) k (from - 1) p f r s in
-    let word = not (eqb k 1) in
-    let w = putOut (eqb k 1 && yes) (not (m .voted) && votedNow b word m s1 (rootOf r)) p f r in
-    let x = delivered (endsNow b word m s1 (rootOf r)) (resultIn b m s1 (rootOf r)) d in
+    let w = saidBy yes k p f from r s in
+    let x = delivered (endsNow b (not (eqb k 1)) m s1 (rootOf r)) (resultIn b m s1 (rootOf r)) d in
     outcome (stepped 0 (length w) (x .kind) (x .size)) (leaves yes k p f from r s) (put 0 w o) (x .buffer)
 
 unfoldable pub byPlan : Plan → List ℕ → ℕ → List ℕ → List ℕ → List ℕ → Outcome

@@ -27,8 +27,8 @@ ghost use Rattle.board.specs.Planned.{planOf};
 ghost use Rattle.state.specs.State.{tableOf, marksOf};
 ghost use Rattle.board.specs.Stepped.{rootOf, leaves};
 ghost use Rattle.delivery.specs.Delivered.{left};
-ghost use Rattle.step.specs.Asked.{Formed, Deliverable, saidBy};
-ghost use Rattle.step.specs.Step.{stepped, outcome, placeOf, good, putOut, resultIn, delivered, takenOf, stepOf};
+ghost use Rattle.step.specs.Asked.{Formed, Deliverable};
+ghost use Rattle.step.specs.Step.{stepped, outcome, placeOf, good, putOut, saidBy, resultIn, delivered, takenOf, stepOf};
 
 // What a step answers: 0 or a refusal's number, the length of the record put out, the delivery (0 none, 1 a message, 2 void) and its length.
 #[repr(C)]
