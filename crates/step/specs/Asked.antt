@@ -1,18 +1,16 @@
 -- What the functions of a step ask of one another.
 use mathlib.Core.Path.{_≡_}
-use Prim.Native.Nat.{ℕ, _+_, _-_, _*_, _≤_, _<_}
+use Prim.Native.Nat.{ℕ, _+_, _*_, _≤_, _<_}
 use mathlib.Core.List.{List}
-use mathlib.Core.Bool.{Bool, true, not, _&&_}
-use lib.Dec.{eqb}
+use mathlib.Core.Bool.{Bool, true}
 use lib.ListN.{length}
 use Rattle.octets.specs.Bytes.{twoAt}
 use Rattle.octets.specs.Sets.{has}
 use Rattle.boards.specs.Table.{limits, sMax}
 use Rattle.boards.specs.declared.Table.{Table}
-use Rattle.state.specs.State.{stateSize, lenAt, tableOf, marksOf}
+use Rattle.state.specs.State.{stateSize, lenAt}
 use Rattle.state.specs.declared.Marks.{Marks}
-use Rattle.board.specs.Stepped.{rootOf, enough, marked, kept, votedNow}
-use Rattle.step.specs.Step.{putOut}
+use Rattle.board.specs.Stepped.{rootOf, enough}
 
 -- a record r with p path nodes and f fragment bytes
 pub record Formed (r : List ℕ) (p f : ℕ) : Type 0 where
