@@ -38,7 +38,7 @@ KNOWN = $(if $(call have,openssl/sha.h,-lcrypto),-DHAVE_OPENSSL -lcrypto) \
         $(if $(call have,isa-l/erasure_code.h,-lisal),-DHAVE_ISAL -lisal)
 
 .PHONY: help test lib demo line-demo drill bench growth stack soak fuzz clean tools
-.PHONY: library-test header-test reference-test vectors-test ground-test board-test line-test drill-test examples-test
+.PHONY: library-test header-test reference-test vectors-test ground-test board-test line-test drill-test examples-test stack-test
 
 help:
 	@echo "make test     everything: the prover's gate, then the tests in C against the library"
@@ -48,13 +48,13 @@ help:
 	@echo "make lib      prove the library and write build/libtumbeliko.a"
 	@echo "make bench    times beside plain C and known libraries, and the stack of each call"
 	@echo "make growth   how the cost of a call grows with L and n: tables, and the plot docs/growth.svg"
-	@echo "make stack    the stack of each call alone"
+	@echo "make stack    the stack of each call alone, beside its limit"
 	@echo "make soak     whole lines of boards for MINUTES=10, each time with a new seed"
 	@echo "make fuzz     the calls on bytes that a coverage-guided fuzzer finds, for MINUTES=10"
 	@echo "make clean    remove build/ and target/"
 	@echo
 	@echo "one part of the tests: library-test header-test reference-test vectors-test ground-test"
-	@echo "                       board-test line-test drill-test examples-test"
+	@echo "                       board-test line-test drill-test examples-test stack-test"
 	@echo "SEED=number   other random bytes for the tests in C"
 	@echo "RUNS=number   how many runs of lines; 20,000 if not given"
 	@echo "LIB=path      another archive"
@@ -152,9 +152,10 @@ build/fuzz/replay: fuzz/replay.c $(FUZZ) fuzz/fuzz.h $(TREES) $(REFERENCE) $(HEA
 build/fuzz/corpus: fuzz/seeds.sh
 	@sh fuzz/seeds.sh $@
 
-build/stack: bench/stack.c $(HEADERS) $(LIB) | build $(TOOLS)
+# Linked statically everywhere: a loader would work on the painted stack too.
+build/stack-test: tests/stack.c $(TREES) $(HARNESS) $(REFERENCE) $(HEADERS) $(LIB) | build $(TOOLS)
 	@echo "building $@ with $(LIB)"
-	@$(BUILD) bench/stack.c $(LIB) $(LDFLAGS) -o $@
+	@$(BUILD) -static tests/stack.c $(TREES) $(HARNESS) $(REFERENCE) $(LIB) $(LDFLAGS) -o $@
 
 build/demo: examples/ground.c $(HEADERS) $(LIB) | build $(TOOLS)
 	@echo "building $@ with $(LIB)"
@@ -231,9 +232,12 @@ growth: build/growth build/count.so build/known/done
 	@COUNT_FILE=build/counts qemu-x86_64 -plugin build/count.so,to=build/counts build/growth docs/growth.svg
 endif
 
-stack: build/stack
+stack: build/stack-test
 	@echo "stack of each call, painted"
-	@$(RUN) build/stack
+	@$(RUN) build/stack-test
+
+stack-test: build/stack-test
+	@$(RUN) build/stack-test
 
 drill: build/drill
 	@echo "the drill program is build/drill: it reads a drill from standard input$(if $(RUN), (run it by $(RUN)))"

@@ -17,7 +17,7 @@ part() {
     {
         "$@" 2>&1
         echo $? > "build/$name.status"
-    } | tee "build/$name.log" | grep --line-buffered -E '^rt: |^building |^n [0-9]| tests ' | sed -u -e 's/^\(.\{110\}\).*/\1/' -e 's/^/   /'
+    } | tee "build/$name.log" | grep --line-buffered -E '^rt: |^building |^n [0-9]| tests |^The most: ' | sed -u -e 's/^\(.\{110\}\).*/\1/' -e 's/^/   /'
     status=$(cat "build/$name.status")
     last=$(tail -n 1 "build/$name.log")
     case $last in
@@ -51,6 +51,7 @@ part ground make --no-print-directory ground-test
 part board make --no-print-directory board-test
 part line make --no-print-directory line-test
 part drill make --no-print-directory drill-test
+part stack make --no-print-directory stack-test
 part examples make --no-print-directory examples-test
 
 echo "$passed passed, $failed failed"

@@ -6,4 +6,3 @@ pub mod KeptLaws
 pub mod Calm
 pub mod Stays
 pub mod StepSound
-pub mod Plans

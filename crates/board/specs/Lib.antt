@@ -1,5 +1,4 @@
--- What the contracts of `board` cite.
+-- What the contracts of `board`, `marking` and `planning` cite.
 pub mod Planned
 pub mod Started
 pub mod Stepped
-pub mod Working

@@ -1,196 +1,28 @@
-// A board: what a step is to do with a record, what a record that is taken leaves, and a start.
+// A board: what a record that is taken leaves and has put out, and a start.
 use boards::Table;
-use boards::fragment_most;
-use boards::fragments_needed;
 use boards::in_limits;
-use boards::member;
 use octets::clear_at;
 use octets::copy_at;
 use octets::put_two;
-use record::Read;
-use record::read_record;
 use record::write_parts;
-use state::Marks;
 use state::is_board;
-use state::is_sound;
-use state::naming_count;
-use state::read_marks;
-use state::read_table;
 use state::state_size;
 ghost use mathlib.Core.Path.{_≡_};
-ghost use mathlib.Core.Bool.{true, _&&_, _||_};
+ghost use mathlib.Core.Bool.{true};
 ghost use mathlib.Core.List.{[]};
-ghost use Prim.Native.Nat.{_+_, _*_, _^_, _≤_, _<_};
-ghost use lib.Bits.{bitOr};
+ghost use Prim.Native.Nat.{_+_, _*_, _≤_, _<_};
 ghost use lib.ListN.{length};
-ghost use Rattle.octets.specs.Bytes.{pick, put};
+ghost use Rattle.octets.specs.Bytes.{put};
 ghost use Rattle.boards.specs.Table.{limits};
 ghost use Rattle.record.specs.Form.{recordOf};
 ghost use Rattle.state.specs.Sound.{isBoard};
-ghost use Rattle.board.specs.Planned.{isShort, isStray, isLate, isAgain, byMarks, planOf};
-ghost use Rattle.board.specs.Working.{planBy};
-ghost use Rattle.board.specs.Stepped.{rootOf, pathOf, fragmentOf, marked, kept, due, won, enough, votedNow, outputNow, endsNow, settledTo, Room};
+ghost use Rattle.board.specs.Stepped.{rootOf, pathOf, fragmentOf, kept, Room};
 ghost use Rattle.board.specs.Started.{freshBytes, begun, startOf};
 
 // What is to be done with a record: refuse it with a number, or take it.
 pub enum Plan {
     Refuse { number: u32 },
     Take { kind: u8, nodes: usize, len: usize },
-}
-
-// Whether it is a send from a board other than S.
-fn stray(b: Table, from: usize, kind: u8) -> bool
-    ensures { λ r. ⌜ r ≡ isStray b from kind ⌝ }
-{
-    if kind == 1 { from != b.sender } else { false }
-}
-
-// Whether the board is done, or it is a send in the output stage.
-fn late(m: Marks, kind: u8) -> bool
-    ensures { λ r. ⌜ r ≡ isLate m kind ⌝ }
-{
-    if m.done {
-        return true;
-    }
-    if kind == 1 { m.output } else { false }
-}
-
-// Whether it is a second send, or a second echo or vote from board i + 1.
-fn again(m: Marks, i: usize, kind: u8) -> bool
-    requires { ⌜ i < 64 ⌝ }
-    ensures { λ r. ⌜ r ≡ isAgain m i kind ⌝ }
-{
-    match kind {
-        1 => m.acquired,
-        2 => member(m.echoes, i),
-        _ => member(m.votes, i),
-    }
-}
-
-// What is to be done with a record of this form.
-fn by_marks(b: Table, m: Marks, from: usize, kind: u8, nodes: usize, len: usize) -> Plan
-    requires { ⌜ (limits b ≡ true) × (isBoard b from ≡ true) ⌝ }
-    ensures { λ r. ⌜ r ≡ byMarks b m from kind nodes len ⌝ }
-{
-    if stray(b, from, kind) {
-        return Plan::Refuse { number: 6 };
-    }
-    if fragment_most(b) < len {
-        return Plan::Refuse { number: 7 };
-    }
-    if late(m, kind) {
-        return Plan::Refuse { number: 8 };
-    }
-    if again(m, from - 1, kind) {
-        return Plan::Refuse { number: 9 };
-    }
-    Plan::Take {
-        kind: kind,
-        nodes: nodes,
-        len: len,
-    }
-}
-
-// Whether a buffer of so many bytes is shorter than needed.
-fn short(b: Table, state: usize, out: usize, delivery: usize) -> bool
-    requires { ⌜ limits b ≡ true ⌝ }
-    ensures { λ r. ⌜ r ≡ isShort b state out delivery ⌝ }
-{
-    if state < state_size(b) {
-        return true;
-    }
-    if out < 16619 {
-        return true;
-    }
-    delivery < b.longest
-}
-
-// What a step is to do with a record that was read: of this kind, or not of the form of one, for which kind 0 stands.
-fn plan_by(
-    s: &[u8],
-    from: usize,
-    out: usize,
-    delivery: usize,
-    kind: u8,
-    nodes: usize,
-    len: usize,
-) -> Plan
-    ensures { λ x. ⌜ x ≡ planBy (now (s .entry)) from out delivery kind nodes len ⌝ }
-{
-    if s.len() < 4608 {
-        return Plan::Refuse { number: 2 };
-    }
-    if !is_sound(s) {
-        return Plan::Refuse { number: 3 };
-    }
-    let b = read_table(s);
-    if short(b, s.len(), out, delivery) {
-        return Plan::Refuse { number: 2 };
-    }
-    if !is_board(b, from) {
-        return Plan::Refuse { number: 4 };
-    }
-    if kind == 0 {
-        return Plan::Refuse { number: 5 };
-    }
-    by_marks(b, read_marks(s), from, kind, nodes, len)
-}
-
-// What a step is to do with the record `r` from a board. It only looks: no buffer is written. The record is read first, and plan_by is
-// called in both cases, so that the compiler leaves it its own frame: a path check and a delivery then do not pay for it.
-pub fn plan_for(s: &[u8], from: usize, r: &[u8], out: &[u8], delivery: &[u8]) -> Plan
-    ensures { λ x. ⌜ x ≡ planOf (now (s .entry)) from (now (r .entry)) (now (out .entry)) (now (delivery .entry)) ⌝ }
-{
-    match read_record(r) {
-        Read::Fault { why: _, at: _ } => plan_by(s, from, out.len(), delivery.len(), 0, 0, 0),
-        Read::Form { kind, nodes, len } => plan_by(
-            s,
-            from,
-            out.len(),
-            delivery.len(),
-            kind,
-            nodes,
-            len,
-        ),
-    }
-}
-
-// The set with board i + 1, if `on`.
-fn joined(set: u64, i: usize, on: bool) -> u64
-    requires { ⌜ i < 64 ⌝ }
-    ensures { λ r. ⌜ r ≡ pick on (bitOr set (2 ^ i)) set ⌝ }
-{
-    if on { set | (1 << i) } else { set }
-}
-
-// Whether one of two tests holds.
-fn either(a: bool, b: bool) -> bool
-    ensures { λ r. ⌜ r ≡ (a || b) ⌝ }
-{
-    if a { true } else { b }
-}
-
-// Whether two tests hold.
-pub fn both(a: bool, b: bool) -> bool
-    ensures { λ r. ⌜ r ≡ (a && b) ⌝ }
-{
-    if a { b } else { false }
-}
-
-// The marks once a record of a kind from board i + 1 is taken; `good` says whether its path is correct.
-pub fn mark(m: Marks, kind: u8, i: usize, good: bool) -> Marks
-    requires { ⌜ i < 64 ⌝ }
-    ensures { λ r. ⌜ r ≡ marked kind i good m ⌝ }
-{
-    Marks {
-        acquired: either(m.acquired, kind == 1),
-        voted: m.voted,
-        output: m.output,
-        done: m.done,
-        echoes: joined(m.echoes, i, kind == 2),
-        usable: joined(m.usable, i, both(kind == 2, good)),
-        votes: joined(m.votes, i, kind == 3),
-    }
 }
 
 // What a record of a kind from board i + 1 leaves in the state; `max` is s_max.
@@ -208,100 +40,6 @@ pub fn keep_record(s: &mut [u8], max: usize, kind: u8, i: usize, nodes: usize, l
     }
     if kind == 3 {
         copy_at(s, 2304 + 32 * i, &r[3..35]);
-    }
-}
-
-// Whether n - t echoes or t + 1 votes name the root of `r`.
-pub fn is_due(s: &[u8], b: Table, m: Marks, r: &[u8]) -> bool
-    requires { ⌜ (4608 ≤ length (now s)) × ((limits b ≡ true) × (35 ≤ length (now r))) ⌝ }
-    ensures { λ x. ⌜ x ≡ due b m (now (s .entry)) (rootOf (now (r .entry))) ⌝ }
-{
-    if b.n - b.t <= naming_count(s, 256, m.echoes, r, 3, b.n) {
-        return true;
-    }
-    b.t + 1 <= naming_count(s, 2304, m.votes, r, 3, b.n)
-}
-
-// Whether n - t votes name it.
-pub fn is_won(s: &[u8], b: Table, m: Marks, r: &[u8]) -> bool
-    requires { ⌜ (4608 ≤ length (now s)) × ((limits b ≡ true) × (35 ≤ length (now r))) ⌝ }
-    ensures { λ x. ⌜ x ≡ won b m (now (s .entry)) (rootOf (now (r .entry))) ⌝ }
-{
-    b.n - b.t <= naming_count(s, 2304, m.votes, r, 3, b.n)
-}
-
-// Whether k usable echoes name it.
-pub fn is_enough(s: &[u8], b: Table, m: Marks, r: &[u8]) -> bool
-    requires { ⌜ (4608 ≤ length (now s)) × ((limits b ≡ true) × (35 ≤ length (now r))) ⌝ }
-    ensures { λ x. ⌜ x ≡ enough b m (now (s .entry)) (rootOf (now (r .entry))) ⌝ }
-{
-    fragments_needed(b) <= naming_count(s, 256, m.usable, r, 3, b.n)
-}
-
-// Whether the board has voted, or votes now; `word` says whether the record is an echo or a vote.
-pub fn voted_now(s: &[u8], b: Table, word: bool, m: Marks, r: &[u8]) -> bool
-    requires { ⌜ (4608 ≤ length (now s)) × ((limits b ≡ true) × (35 ≤ length (now r))) ⌝ }
-    ensures { λ x. ⌜ x ≡ votedNow b word m (now (s .entry)) (rootOf (now (r .entry))) ⌝ }
-{
-    if m.voted {
-        return true;
-    }
-    if !word {
-        return false;
-    }
-    is_due(s, b, m, r)
-}
-
-// Whether the output stage is open, or opens now.
-pub fn output_now(s: &[u8], b: Table, word: bool, voted: bool, m: Marks, r: &[u8]) -> bool
-    requires { ⌜ (4608 ≤ length (now s)) × ((limits b ≡ true) × ((35 ≤ length (now r)) × (voted ≡ votedNow b word m (now s) (rootOf (now r))))) ⌝ }
-    ensures { λ x. ⌜ x ≡ outputNow b word m (now (s .entry)) (rootOf (now (r .entry))) ⌝ }
-{
-    if m.output {
-        return true;
-    }
-    if !word {
-        return false;
-    }
-    if !voted {
-        return false;
-    }
-    is_won(s, b, m, r)
-}
-
-// Whether the delivery is due now.
-pub fn ends_now(s: &[u8], b: Table, word: bool, output: bool, m: Marks, r: &[u8]) -> bool
-    requires { ⌜ (4608 ≤ length (now s)) × ((limits b ≡ true) × ((35 ≤ length (now r)) × (output ≡ outputNow b word m (now s) (rootOf (now r))))) ⌝ }
-    ensures { λ x. ⌜ x ≡ endsNow b word m (now (s .entry)) (rootOf (now (r .entry))) ⌝ }
-{
-    if !word {
-        return false;
-    }
-    if !output {
-        return false;
-    }
-    if !is_won(s, b, m, r) {
-        return false;
-    }
-    is_enough(s, b, m, r)
-}
-
-// The marks once all that is due is done.
-pub fn settle(s: &[u8], b: Table, word: bool, m: Marks, r: &[u8]) -> Marks
-    requires { ⌜ (4608 ≤ length (now s)) × ((limits b ≡ true) × (35 ≤ length (now r))) ⌝ }
-    ensures { λ x. ⌜ x ≡ settledTo b word m (now (s .entry)) (rootOf (now (r .entry))) ⌝ }
-{
-    let voted = voted_now(s, b, word, m, r);
-    let output = output_now(s, b, word, voted, m, r);
-    let ends = ends_now(s, b, word, output, m, r);
-    Marks {
-        acquired: m.acquired,
-        voted: voted,
-        output: output,
-        done: either(m.done, ends),
-        echoes: m.echoes,
-        usable: m.usable,
-        votes: m.votes,
     }
 }
 

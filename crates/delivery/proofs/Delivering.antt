@@ -22,9 +22,9 @@ use Rattle.code.specs.Code.{Apart, fragmentOf}
 use Rattle.code.specs.Block.{rows, block, readable, messageIn}
 use Rattle.code.proofs.Reading.{Readable, readable-facts}
 use Rattle.encoding.specs.Message.{fragmentFor}
-use Rattle.rebuilding.specs.Fits.{Boards}
+use Rattle.summing.specs.Sums.{Boards}
 use Rattle.rebuilding.specs.Through.{marks, blockThrough}
-use Rattle.rebuilding.proofs.Columns.{room}
+use Rattle.summing.proofs.Weighing.{room}
 use Rattle.rebuilding.proofs.Marks.{between, marks-have, length-marks}
 use Rattle.rebuilding.proofs.Rows.{first-boards, first-take}
 use Rattle.rebuilding.proofs.Agree.{boards, apart-first, enough-marks, length-first}
@@ -32,7 +32,8 @@ use Rattle.tree.specs.Tree.{rootOf}
 use Rattle.octets.proofs.Parts.{part-all}
 use Rattle.delivery.specs.declared.Delivered.{Delivered}
 use Rattle.delivery.specs.Delivered.{allOfLength, afresh, resultFrom, Left, left, leftBy}
-use Rattle.delivery.specs.Working.{kept, Anew}
+use Rattle.afresh.specs.Working.{Anew}
+use Rattle.delivery.specs.Working.{kept, Readied}
 use Rattle.delivery.proofs.Fresh.{anew}
 
 abbrev leaves : ℕ → ℕ → List ℕ → Left
@@ -47,6 +48,26 @@ left-void r out o e n = ap₂ (λ (k l : ℕ). leaves k l out) (e .0) (e .1) ∙
 pub rows-hold : (k m : ℕ) → 0 < k → 4 + m ≤ rows k m * k
 unfolding rows
 rows-hold k m pos = let x = m + 4 + (k - 1) in omega (arith, N.div-add-mod' x k, N.mod-lt x pos)
+
+-- and the last of them begins in it
+pub rows-before : (k m len : ℕ) → 0 < k → 0 < len → rows k m ≡ len → (len - 1) * k ≤ 4 + m
+unfolding rows
+rows-before k m len pos more e =
+    let x = m + 4 + (k - 1) in
+    let back : len - 1 + 1 ≡ len = omega arith in
+    let q : (len - 1) * k + k ≡ len * k = sym (N.add-mul (len - 1) 1 k ∙ ap (λ (n : ℕ). (len - 1) * k + n) (N.one-mul k)) ∙ ap (λ (n : ℕ). n * k) back in
+    omega (arith, N.div-mul-le-self x k, ap (λ (n : ℕ). n * k) e)
+
+-- the block cannot be read
+pub refused : (b : Table) (k len : ℕ) (given l : List ℕ) → ((root : List ℕ) → afresh b root given ≡ none) → Readied b k len given 16385 l
+refused b k len given l h = record {
+  unread = λ g. h;
+  size = λ g. absurd (omega arith);
+  enough = λ g. absurd (omega arith);
+  fits = λ g. absurd (omega arith);
+  count = λ g. absurd (omega arith);
+  last = λ g. absurd (omega arith);
+}
 
 fragment-anew : (b : Table) (given : List ℕ) (len : ℕ) (l : List ℕ) (i : ℕ)
     → Anew (kOf b) len given l (suc i) (fragmentOf (kOf b) (block (kOf b) (messageIn given)) (suc i)) → Anew (kOf b) len given l (suc i) (fragmentFor b (messageIn given) i)
@@ -123,9 +144,9 @@ module _ (b : Table) (root given : List ℕ) (k len size : ℕ) (limited : limit
               (anew (kOf b) (b .longest) given pos small facts len rows-given l more le
               (λ q h. f q h ∙ ap (λ (n : ℕ). kept (4 + n) given ((len - 1) * kOf b + q)) e) (suc i))
 
-      module _ (fresh : List ℕ) (er : fresh ≡ rootOf (b .n) (fragmentFor b (messageIn given))) (lf : length fresh ≡ 32) (lr : length root ≡ 32) where
+      module _ (fresh : List ℕ) (er : part 0 32 fresh ≡ rootOf (b .n) (fragmentFor b (messageIn given))) (lr : length root ≡ 32) where
         compared : (c : Bool) → c ≡ same (part 0 32 fresh) (part 0 32 root) → same (rootOf (b .n) (fragmentFor b (messageIn given))) root ≡ c
-        compared c h = sym (h ∙ ap₂ same (part-all 32 fresh lf ∙ er) (part-all 32 root lr))
+        compared c h = sym (h ∙ ap₂ same er (part-all 32 root lr))
 
         by-root : (c : Bool) → c ≡ same (part 0 32 fresh) (part 0 32 root) → afresh b root given ≡ pick c (some (messageIn given)) none
         unfolding afresh

@@ -18,7 +18,8 @@ use Rattle.code.proofs.Blocks.{byte-later, not-more, length-fragment, fragment-
 use Rattle.code.proofs.Reading.{Readable}
 use Rattle.octets.proofs.Parts.{getD-part}
 use Rattle.rebuilding.proofs.Rows as R
-use Rattle.delivery.specs.Working.{kept, Anew}
+use Rattle.afresh.specs.Working.{Anew}
+use Rattle.delivery.specs.Working.{kept}
 
 -- the four bytes of a length that was read are those that were read
 header-byte : (b l : List ℕ) (p : ℕ) → ((p : ℕ) → getD b p 0 < 256) → p < 4 → getD (header (fourAt b 0) ++ l) p 0 ≡ getD b p 0

@@ -1,8 +1,7 @@
 -- Laws of delivery. The theorems are in Results.
 pub mod Weighed
+pub mod Lines
 pub mod Fresh
-pub mod Hashing
-pub mod Roots
 pub mod Copying
 pub mod Lengths
 pub mod Delivering

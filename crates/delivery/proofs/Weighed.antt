@@ -12,15 +12,16 @@ use Rattle.octets.proofs.Walk.{lt-or-le}
 use Rattle.octets.proofs.Tables.{getD-tab}
 use Rattle.code.specs.Code.{Byte, Apart, value, row}
 use Rattle.code.proofs.Lists.{all-of, map-at}
-use Rattle.rebuilding.specs.Fits.{cell}
+use Rattle.summing.specs.Sums.{cell}
 use Rattle.rebuilding.specs.Sums.{Master, Scales}
-use Rattle.rebuilding.specs.Through.{through, blockThrough}
+use Rattle.rebuilding.specs.Through.{blockThrough}
 use Rattle.octets.proofs.Parts.{getD-part}
 use Rattle.rebuilding.proofs.Rows.{getD-row, cell-row}
 use Rattle.rebuilding.proofs.Columns.{coefficient, coefficient-lt, by-weights}
 use Rattle.rebuilding.proofs.Others.{line, size, at-points, at-other, bytes-line}
 use Rattle.rebuilding.proofs.Interpolation.{length-block-through, through-only, row-block-through}
-use Rattle.delivery.specs.Working.{Made}
+use Rattle.afresh.specs.Working.{Made}
+use Rattle.delivery.specs.Working.{Whole}
 
 module _ (area : List ℕ) (s : ℕ) (ps m ds : List ℕ) (M : Master ps m) (apart : Apart ps) (small : (i : ℕ) → getD ps i 0 < 256)
     (bytes-m : (i : ℕ) → getD m i 0 < 256) (S : Scales ps m ds) (bytes-a : (i : ℕ) → getD area i 0 < 256)
@@ -60,12 +61,19 @@ module _ (area : List ℕ) (s : ℕ) (ps m ds : List ℕ) (M : Master ps m) (apa
       subst (λ (v : ℕ). v < 256) (sym (List·getD-eq-default b 0 over)) (omega arith))
       (lt-or-le p (len * length ps))
 
-  pub made : 0 < length ps → Made area s ps m ds len (blockThrough len ps fragment)
+  made : 0 < length ps → Made area s ps m ds len (blockThrough len ps fragment)
   made pos = record {
     product = M;
+    scales = S;
     size = length-block-through ps fragment len;
     small = small-byte pos;
     byte = λ ws c q h g w. by-weights area s ps m ds len [] ws q c w ∙ sym (in-line c q g)
         ∙ ap (λ (l : List ℕ). getD l q 0) (sym (by-line c h)) ∙ getD-row (length ps) c q (blockThrough len ps fragment) g;
     at = λ ws c z h v. sym (at-other area s ps m ds M apart small bytes-m S bytes-a z ws c v) ∙ ap (λ (l : List ℕ). value l z) (sym (by-line c h));
   }
+
+-- whatever product and scales it is worked out by
+pub whole : (area : List ℕ) (s : ℕ) (ps : List ℕ) → Apart ps → ((i : ℕ) → getD ps i 0 < 256) → ((i : ℕ) → getD area i 0 < 256) → (len : ℕ) (fragment : ℕ → List ℕ)
+    → ((i : ℕ) → i < length ps → fragment (getD ps i 0) ≡ part ((getD ps i 0 - 1) * s) len area) → 0 < length ps
+    → Whole area s ps len (blockThrough len ps fragment)
+whole area s ps apart small bytes len fragment given pos m ds M S = made area s ps m ds M apart small (M .small) S bytes len fragment given pos

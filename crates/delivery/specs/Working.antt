@@ -1,48 +1,39 @@
--- Working definitions of a delivery that has no block in memory: each byte of the block, and of the fragments, as a weighed sum of kept bytes.
+-- Working definitions of a delivery that has no block in memory.
 -- Assumes nothing.
 use mathlib.Core.Path.{_≡_}
 use mathlib.Core.List.{List}
+use mathlib.Core.Option.{none}
 use Prim.Native.Nat.{ℕ, suc, _+_, _-_, _*_, _/_, _%_, _<_, _≤_}
 use lib.Dec.{ltb}
-use lib.ListN.{length, getD}
-use Rattle.octets.specs.Bytes.{pick}
-use Rattle.code.specs.Code.{value, row}
-use Rattle.rebuilding.specs.Fits.{Boards}
-use Rattle.rebuilding.specs.Sums.{Master, Weights, Values, weighed}
+use lib.ListN.{getD}
+use Rattle.octets.specs.Bytes.{pick, fourAt}
+use Rattle.boards.specs.declared.Table.{Table}
+use Rattle.code.specs.Block.{rows}
+use Rattle.rebuilding.specs.Sums.{Master, Scales}
+use Rattle.afresh.specs.Working.{Made}
+use Rattle.delivery.specs.Delivered.{afresh}
 
--- room for the k points xs, their product m and its scales ds; the kept fragments lie in an area of the size, in rooms of s bytes
-pub record Ready (size s : ℕ) (xs m ds : List ℕ) : Type 0 where
-  pub boards : Boards size s xs
-  pub short : s ≤ 16388
-  pub some : 0 < length xs
-  pub few : length xs ≤ 64
-  pub product : length m ≡ suc (length xs)
-  pub scales : length ds ≡ length xs
+-- l is row c of the block b, in rows of k bytes
+abbrev pub Row : ℕ → List ℕ → ℕ → List ℕ → Type 0
+Row k b c l = (q : ℕ) → q < k → getD l q 0 ≡ getD b (c * k + q) 0
 
--- b is the block of len rows whose bytes, and whose fragments' bytes, are the kept bytes by their weights; m is the product of all X - x
-pub record Made (area : List ℕ) (s : ℕ) (xs m ds : List ℕ) (len : ℕ) (b : List ℕ) : Type 0 where
-  pub product : Master xs m
-  pub size : length b ≡ len * length xs
-  pub small : (p : ℕ) → getD b p 0 < 256
-  pub byte : (ws : List ℕ) (c q : ℕ) → c < len → q < length xs → Weights xs m ds (suc q) ws
-      → weighed area s xs ws c (length xs) ≡ getD b (c * length xs + q) 0
-  pub at : (ws : List ℕ) (c z : ℕ) → c < len → Values xs m ds z ws → weighed area s xs ws c (length xs) ≡ value (row (length xs) b c) z
+-- b is the block of len rows that the kept fragments of the boards xs make, whatever product m of all X - x and scales ds it is worked out by
+abbrev pub Whole : List ℕ → ℕ → List ℕ → ℕ → List ℕ → Type 0
+Whole area s xs len b = (m ds : List ℕ) → Master xs m → Scales xs m ds → Made area s xs m ds len b
 
 -- byte p of the block that is encoded afresh, whose message ends before `end`: zeros after the message
 unfoldable pub kept : ℕ → List ℕ → ℕ → ℕ
 kept end b p = pick (ltb p end) (getD b p 0) 0
 
--- f is a fragment of len bytes: the kept bytes by the weights ws, and v in the last row
-pub record Leaf (area : List ℕ) (s : ℕ) (xs ws : List ℕ) (v len : ℕ) (f : List ℕ) : Type 0 where
-  pub size : length f ≡ len
-  pub rows : (c : ℕ) → c + 1 < len → getD f c 0 ≡ weighed area s xs ws c (length xs)
-  pub last : getD f (len - 1) 0 ≡ v
-
--- f is fragment z of a block whose rows are those of b, of k bytes, but the last, which is r
-pub record Anew (k len : ℕ) (b r : List ℕ) (z : ℕ) (f : List ℕ) : Type 0 where
-  pub size : length f ≡ len
-  pub rows : (c : ℕ) → c + 1 < len → getD f c 0 ≡ value (row k b c) z
-  pub last : getD f (len - 1) 0 ≡ value r z
+-- the block `given` of len rows of k bytes is read: r is its message's length and l the last row of the block that is encoded afresh; or r is above
+-- 16384, and nothing can be delivered
+pub record Readied (b : Table) (k len : ℕ) (given : List ℕ) (r : ℕ) (l : List ℕ) : Type 0 where
+  pub unread : 16384 < r → (root : List ℕ) → afresh b root given ≡ none
+  pub size : r ≤ 16384 → r ≡ fourAt given 0
+  pub enough : r ≤ 16384 → 4 ≤ len * k
+  pub fits : r ≤ 16384 → r ≤ b .longest
+  pub count : r ≤ 16384 → rows k r ≡ len
+  pub last : r ≤ 16384 → (q : ℕ) → q < k → getD l q 0 ≡ kept (4 + r) given ((len - 1) * k + q)
 
 -- of the message of n bytes in b, in rows of k bytes, the columns from i on are written, and column i - 1 as far as row c; nothing after it
 pub record Copied (b : List ℕ) (n k i c : ℕ) (old new : List ℕ) : Type 0 where

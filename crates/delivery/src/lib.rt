@@ -1,25 +1,27 @@
 // What a board delivers in the output stage: the message whose fragments were kept, or void. No block is held in memory: each of its bytes,
 // and of its fragments' bytes, is a weighed sum of the kept bytes of its row.
 use boards::Table;
+use field::product;
 use octets::two_at;
 use octets::wide;
 ghost use mathlib.Core.Path.{_≡_};
 ghost use mathlib.Core.Bool.{true};
-ghost use mathlib.Core.List.{List, _∷_};
-ghost use Prim.Native.Nat.{ℕ, suc, _+_, _-_, _*_, _/_, _^_, _<_, _≤_};
+ghost use mathlib.Core.List.{List};
+ghost use Prim.Native.Nat.{ℕ, suc, _+_, _-_, _*_, _/_, _%_, _^_, _<_, _≤_};
 ghost use lib.Count.{ones};
 ghost use lib.ListN.{length, getD};
 ghost use Rattle.octets.specs.Bytes.{twoAt, fourAt, part, put};
 ghost use Rattle.octets.specs.Sets.{has};
 ghost use Rattle.boards.specs.Table.{limits, kOf, sMax};
-ghost use Rattle.code.specs.Code.{Apart, value};
-ghost use Rattle.rebuilding.specs.Fits.{Boards};
-ghost use Rattle.rebuilding.specs.Sums.{weighed};
+ghost use Rattle.field.specs.Field.{mul};
+ghost use Rattle.code.specs.Code.{Apart};
+ghost use Rattle.summing.specs.Sums.{Boards, cell};
+ghost use Rattle.summing.specs.Sums.{total, weighed};
+ghost use Rattle.rebuilding.specs.Sums.{Master, Scales};
 ghost use Rattle.rebuilding.specs.Through.{blockThrough};
-ghost use Rattle.sha256.specs.Sha256.{pad, block, sha256};
-ghost use Rattle.tree.specs.Tree.{leafHash, rootOf};
+ghost use Rattle.afresh.specs.Working.{Ready, Made};
 ghost use Rattle.delivery.specs.Delivered.{allOfLength, afresh, resultFrom, resultOf, left, leftBy};
-ghost use Rattle.delivery.specs.Working.{Ready, Made, kept, Leaf, Anew, Copied};
+ghost use Rattle.delivery.specs.Working.{Row, Whole, kept, Readied, Copied};
 
 // A delivery: its kind, 1 for a message and 2 for void, and the message's length.
 pub struct Delivered {
@@ -34,71 +36,41 @@ fn void() -> Delivered
     Delivered { kind: 2, length: 0 }
 }
 
-// Byte p of the block. ws and sum are room to work in.
-fn byte_at(
-    area: &[u8],
-    s: usize,
-    points: &[u8],
-    m: &[u8],
-    ds: &[u8],
-    p: usize,
-    ws: &mut [u8],
-    sum: &mut [u8],
-) -> u8
-    requires { ⌜ Ready (length (now area)) s (now points) (now m) (now ds) × (length (now ws) ≡ length (now points)) × (0 < length (now sum))
-        × (p < s * length (now points)) ⌝ }
-    ensures { λ r. ⌜ ((len : ℕ) (b : List ℕ) → Made (now (area .entry)) s (now (points .entry)) (now (m .entry)) (now (ds .entry)) len b → p < len * length (now (points .entry)) → r ≡ getD b p 0) ⌝ }
+// Byte c of fragment x.
+fn cell_at(area: &[u8], s: usize, x: u8, c: usize) -> u8
+    requires { ⌜ (0 < x) × (x ≤ 64) × (s ≤ 16388) × (c < s) × (x * s ≤ length (now area)) ⌝ }
+    ensures { λ r. ⌜ r ≡ cell (now (area .entry)) s c x ⌝ }
 {
-    let k = points.len();
-    rebuilding::weights_for(points, m, ds, p % k, ws);
-    rebuilding::combine(area, s, points, ws, p / k, 1, sum);
-    sum[0]
+    area[(wide(x) - 1) * s + c]
 }
 
-// The message's length, as the first four bytes of the block have it.
-fn size_in(
-    area: &[u8],
-    s: usize,
-    points: &[u8],
-    m: &[u8],
-    ds: &[u8],
-    ws: &mut [u8],
-    sum: &mut [u8],
-) -> usize
-    requires { ⌜ Ready (length (now area)) s (now points) (now m) (now ds) × (length (now ws) ≡ length (now points)) × (0 < length (now sum))
-        × (3 < s * length (now points)) ⌝ }
-    ensures { λ r. ⌜ ((len : ℕ) (b : List ℕ) → Made (now (area .entry)) s (now (points .entry)) (now (m .entry)) (now (ds .entry)) len b → 3 < len * length (now (points .entry)) → r ≡ fourAt b 0) ⌝ }
+// Byte c of each kept fragment, times its scale.
+fn scale(area: &[u8], s: usize, points: &[u8], ds: &[u8], c: usize, es: &mut [u8])
+    requires { ⌜ Ready (length (now area)) s (now points) (now ds) × (c < s) × (length (now es) ≡ length (now points)) ⌝ }
+    ensures { λ _. ⌜ ((j : ℕ) → j < length (now (points .entry))
+        → getD (now (es .exit)) j 0 ≡ mul (getD (now (ds .entry)) j 0) (cell (now (area .entry)) s c (getD (now (points .entry)) j 0))) ⌝ }
 {
-    let b0 = wide(byte_at(area, s, points, m, ds, 0, ws, sum));
-    let b1 = wide(byte_at(area, s, points, m, ds, 1, ws, sum));
-    let b2 = wide(byte_at(area, s, points, m, ds, 2, ws, sum));
-    let b3 = wide(byte_at(area, s, points, m, ds, 3, ws, sum));
-    (b0 * 256 + b1) * 65536 + (b2 * 256 + b3)
-}
-
-// Byte p of the block that is encoded afresh: zeros from `end` on, where the message ends.
-fn kept_at(
-    area: &[u8],
-    s: usize,
-    points: &[u8],
-    m: &[u8],
-    ds: &[u8],
-    p: usize,
-    end: usize,
-    ws: &mut [u8],
-    sum: &mut [u8],
-) -> u8
-    requires { ⌜ Ready (length (now area)) s (now points) (now m) (now ds) × (length (now ws) ≡ length (now points)) × (0 < length (now sum))
-        × (p < s * length (now points)) ⌝ }
-    ensures { λ r. ⌜ ((len : ℕ) (b : List ℕ) → Made (now (area .entry)) s (now (points .entry)) (now (m .entry)) (now (ds .entry)) len b → p < len * length (now (points .entry)) → r ≡ kept end b p) ⌝ }
-{
-    if p < end {
-        return byte_at(area, s, points, m, ds, p, ws, sum);
+    let mut j = 0;
+    while j < points.len() {
+        es[j] = product(ds[j], cell_at(area, s, points[j], c));
+        j += 1;
     }
-    0
 }
 
-// Row c of the block that is encoded afresh.
+// The sum of all bytes.
+fn sum_of(ts: &[u8]) -> u8
+    ensures { λ r. ⌜ r ≡ total (λ j. getD (now (ts .entry)) j 0) (length (now (ts .entry))) ⌝ }
+{
+    let mut v: u8 = 0;
+    let mut j = 0;
+    while j < ts.len() {
+        v = v ^ ts[j];
+        j += 1;
+    }
+    v
+}
+
+// Row c of the block, from the highest coefficient down. ts and es are room to work in.
 fn write_row(
     area: &[u8],
     s: usize,
@@ -106,170 +78,223 @@ fn write_row(
     m: &[u8],
     ds: &[u8],
     c: usize,
-    end: usize,
     row: &mut [u8],
-    ws: &mut [u8],
-    sum: &mut [u8],
+    ts: &mut [u8],
+    es: &mut [u8],
 )
-    requires { ⌜ Ready (length (now area)) s (now points) (now m) (now ds) × (length (now ws) ≡ length (now points)) × (0 < length (now sum))
-        × (length (now row) ≡ length (now points)) × (c < s) ⌝ }
-    ensures { λ _. ⌜ ((len : ℕ) (b : List ℕ) → Made (now (area .entry)) s (now (points .entry)) (now (m .entry)) (now (ds .entry)) len b → c < len → (q : ℕ) → q < length (now (points .entry)) → getD (now (row .exit)) q 0 ≡ kept end b (c * length (now (points .entry)) + q)) ⌝ }
+    requires { ⌜ Ready (length (now area)) s (now points) (now ds) × (length (now m) ≡ suc (length (now points))) × (c < s)
+        × (length (now row) ≡ length (now points)) × (length (now ts) ≡ length (now points)) × (length (now es) ≡ length (now points)) ⌝ }
+    ensures { λ _. ⌜ ((len : ℕ) (b : List ℕ) → Made (now (area .entry)) s (now (points .entry)) (now (m .entry)) (now (ds .entry)) len b → c < len
+        → Row (length (now (points .entry))) b c (now (row .exit))) ⌝ }
 {
-    let k = points.len();
-    let mut q = 0;
-    while q < k {
-        let x = kept_at(area, s, points, m, ds, c * k + q, end, ws, sum);
-        row[q] = x;
-        q += 1;
-    }
-}
-
-// 64 bytes moved up by one place, with a zero before them.
-fn move_up(buffer: &mut [u8])
-    requires { ⌜ length (now buffer) ≡ 64 ⌝ }
-    ensures { λ _. ⌜ (getD (now (buffer .exit)) 0 0 ≡ 0) × ((i : ℕ) → i < 63 → getD (now (buffer .exit)) (i + 1) 0 ≡ getD (now (buffer .entry)) i 0) ⌝ }
-{
-    let mut i = 63;
+    scale(area, s, points, ds, c, es);
+    let mut i = points.len();
+    octets::clear_at(ts, 0, i);
     while 0 < i {
-        buffer[i] = buffer[i - 1];
+        rebuilding::advance(points, es, m[i], ts);
         i -= 1;
-    }
-    buffer[0] = 0;
-}
-
-// Of a zero and then a fragment, 64 bytes from `at` on: those in the rows before the last.
-fn fill_rows(
-    area: &[u8],
-    s: usize,
-    points: &[u8],
-    ws: &[u8],
-    len: usize,
-    at: usize,
-    buffer: &mut [u8],
-)
-    requires { ⌜ Boards (length (now area)) s (now points) × (s ≤ 16388) × (0 < len) × (len ≤ s) × (length (now ws) ≡ length (now points))
-        × (length (now buffer) ≡ 64) ⌝ }
-    ensures { λ _. ⌜ (at ≡ 0 → getD (now (buffer .exit)) 0 0 ≡ 0) × ((i : ℕ) → i < 64 → 0 < at + i → at + i < len
-        → getD (now (buffer .exit)) i 0 ≡ weighed (now (area .entry)) s (now (points .entry)) (now (ws .entry)) (at + i - 1) (length (now (points .entry)))) ⌝ }
-{
-    if at == 0 {
-        let n = tree::least(len - 1, 63);
-        rebuilding::combine(area, s, points, ws, 0, n, buffer);
-        move_up(buffer);
-        return;
-    }
-    if at < len {
-        let n = tree::least(len - at, 64);
-        rebuilding::combine(area, s, points, ws, at - 1, n, buffer);
+        let x = sum_of(ts);
+        row[i] = x;
     }
 }
 
-// Byte i of a zero and then a fragment, padded: x before the last byte v, which stands at len.
-fn end_byte(x: u8, i: usize, len: usize, v: u8) -> u8
-    requires { ⌜ (len ≤ 65535) × (i < (len + 9) / 64 * 64 + 64) ⌝ }
-    ensures { λ r. ⌜ ((f : List ℕ) → length f ≡ len → getD f (len - 1) 0 ≡ v → 0 < len → (i < len → r ≡ x) × (len ≤ i → r ≡ getD (pad (0 ∷ f)) i 0)) ⌝ }
-{
-    if i < len {
-        return x;
-    }
-    if i == len {
-        return v;
-    }
-    sha256::pad_byte(len + 1, i)
-}
-
-// The last byte and the padding, of the 64 bytes from `at` on.
-fn fill_end(buffer: &mut [u8], at: usize, len: usize, v: u8)
-    requires { ⌜ (len ≤ 65535) × (at + 64 ≤ (len + 9) / 64 * 64 + 64) × (length (now buffer) ≡ 64) ⌝ }
-    ensures { λ _. ⌜ ((f : List ℕ) → length f ≡ len → getD f (len - 1) 0 ≡ v → 0 < len → (i : ℕ) → i < 64
-        → (at + i < len → getD (now (buffer .exit)) i 0 ≡ getD (now (buffer .entry)) i 0)
-        × (len ≤ at + i → getD (now (buffer .exit)) i 0 ≡ getD (pad (0 ∷ f)) (at + i) 0)) ⌝ }
-{
-    let mut i = 0;
-    while i < 64 {
-        let x = end_byte(buffer[i], at + i, len, v);
-        buffer[i] = x;
-        i += 1;
-    }
-}
-
-// Block j of a zero and then a fragment, padded. The fragment is the kept bytes by the weights ws, and v in the last row.
-fn fill(
-    area: &[u8],
-    s: usize,
-    points: &[u8],
-    ws: &[u8],
-    v: u8,
-    len: usize,
-    j: usize,
-    buffer: &mut [u8],
-)
-    requires { ⌜ Boards (length (now area)) s (now points) × (s ≤ 16388) × (0 < len) × (len ≤ s) × (length (now ws) ≡ length (now points))
-        × (length (now buffer) ≡ 64) × (64 * j ≤ (len + 9) / 64 * 64) ⌝ }
-    ensures { λ _. ⌜ ((f : List ℕ) → Leaf (now (area .entry)) s (now (points .entry)) (now (ws .entry)) v len f → now (buffer .exit) ≡ block j (pad (0 ∷ f))) ⌝ }
-{
-    let at = 64 * j;
-    fill_rows(area, s, points, ws, len, at, buffer);
-    fill_end(buffer, at, len, v);
-}
-
-// The leaf of a fragment.
-fn fresh_leaf(
-    area: &[u8],
-    s: usize,
-    points: &[u8],
-    ws: &[u8],
-    v: u8,
-    len: usize,
-    buffer: &mut [u8],
-) -> [u8; 32]
-    requires { ⌜ Boards (length (now area)) s (now points) × (s ≤ 16388) × (0 < len) × (len ≤ s) × (length (now ws) ≡ length (now points))
-        × (length (now buffer) ≡ 64) ⌝ }
-    ensures { λ r. ⌜ ((f : List ℕ) → Leaf (now (area .entry)) s (now (points .entry)) (now (ws .entry)) v len f → r ≡ leafHash sha256 f) ⌝ }
-{
-    let count = (len + 73) / 64;
-    let mut h = sha256::begun();
-    let mut j = 0;
-    while j < count {
-        fill(area, s, points, ws, v, len, j, buffer);
-        let next = sha256::compressed(h, buffer);
-        h = next;
-        j += 1;
-    }
-    sha256::written(h)
-}
-
-// The root of the n fragments of the block that is encoded afresh: `row` is its last row. ws, buffer and waiting are room to work in.
-fn fresh_root(
+// The row that byte p of the block is in: written where p begins it.
+fn begin_row(
     area: &[u8],
     s: usize,
     points: &[u8],
     m: &[u8],
     ds: &[u8],
-    row: &[u8],
-    len: usize,
-    n: usize,
-    ws: &mut [u8],
-    buffer: &mut [u8],
-    waiting: &mut [u8],
-) -> [u8; 32]
-    requires { ⌜ Ready (length (now area)) s (now points) (now m) (now ds) × (length (now ws) ≡ length (now points)) × (length (now buffer) ≡ 64)
-        × (0 < len) × (len ≤ s) × (0 < n) × (n ≤ 64) × (192 ≤ length (now waiting)) ⌝ }
-    ensures { λ r. ⌜ ((b : List ℕ) (fs : ℕ → List ℕ) → Made (now (area .entry)) s (now (points .entry)) (now (m .entry)) (now (ds .entry)) len b
-        → ((i : ℕ) → i < n → Anew (length (now (points .entry))) len b (now (row .entry)) (suc i) (fs i)) → r ≡ rootOf n fs) ⌝ }
+    p: usize,
+    row: &mut [u8],
+    ts: &mut [u8],
+    es: &mut [u8],
+)
+    requires { ⌜ Ready (length (now area)) s (now points) (now ds) × (length (now m) ≡ suc (length (now points))) × (p < s * length (now points))
+        × (length (now row) ≡ length (now points)) × (length (now ts) ≡ length (now points)) × (length (now es) ≡ length (now points)) ⌝ }
+    ensures { λ _. ⌜ ((len : ℕ) (b : List ℕ) → Made (now (area .entry)) s (now (points .entry)) (now (m .entry)) (now (ds .entry)) len b → p < len * length (now (points .entry))
+        → (0 < p % length (now (points .entry)) → Row (length (now (points .entry))) b (p / length (now (points .entry))) (now (row .entry)))
+        → Row (length (now (points .entry))) b (p / length (now (points .entry))) (now (row .exit))) ⌝ }
 {
-    let mut x = [0u8; 32];
-    let mut i = 0;
-    while i < n {
-        let z = (i + 1) as u8;
-        rebuilding::weights_at(points, m, ds, z, ws);
-        let v = rebuilding::value_at(row, z);
-        let y = fresh_leaf(area, s, points, ws, v, len, buffer);
-        let up = tree::raised(waiting, y, i, n);
-        x = up;
-        i += 1;
+    let k = points.len();
+    if p % k != 0 {
+        return;
     }
-    x
+    write_row(area, s, points, m, ds, p / k, row, ts, es);
+}
+
+// Byte p of the block. Its row is written where p begins it, and stands there otherwise.
+fn byte_at(
+    area: &[u8],
+    s: usize,
+    points: &[u8],
+    m: &[u8],
+    ds: &[u8],
+    p: usize,
+    row: &mut [u8],
+    ts: &mut [u8],
+    es: &mut [u8],
+) -> usize
+    requires { ⌜ Ready (length (now area)) s (now points) (now ds) × (length (now m) ≡ suc (length (now points))) × (p < s * length (now points))
+        × (length (now row) ≡ length (now points)) × (length (now ts) ≡ length (now points)) × (length (now es) ≡ length (now points)) ⌝ }
+    ensures { λ r. ⌜ (r < 256) × ((len : ℕ) (b : List ℕ) → Made (now (area .entry)) s (now (points .entry)) (now (m .entry)) (now (ds .entry)) len b → p < len * length (now (points .entry))
+        → (0 < p % length (now (points .entry)) → Row (length (now (points .entry))) b (p / length (now (points .entry))) (now (row .entry)))
+        → (r ≡ getD b p 0) × Row (length (now (points .entry))) b (p / length (now (points .entry))) (now (row .exit))) ⌝ }
+{
+    begin_row(area, s, points, m, ds, p, row, ts, es);
+    wide(row[p % points.len()])
+}
+
+// The message's length, as the first four bytes of the block have it. row, ts and es are room to work in.
+fn size_in(
+    area: &[u8],
+    s: usize,
+    points: &[u8],
+    m: &[u8],
+    ds: &[u8],
+    row: &mut [u8],
+    ts: &mut [u8],
+    es: &mut [u8],
+) -> usize
+    requires { ⌜ Ready (length (now area)) s (now points) (now ds) × (length (now m) ≡ suc (length (now points))) × (3 < s * length (now points))
+        × (length (now row) ≡ length (now points)) × (length (now ts) ≡ length (now points)) × (length (now es) ≡ length (now points)) ⌝ }
+    ensures { λ r. ⌜ ((len : ℕ) (b : List ℕ) → Made (now (area .entry)) s (now (points .entry)) (now (m .entry)) (now (ds .entry)) len b → 3 < len * length (now (points .entry)) → r ≡ fourAt b 0) ⌝ }
+{
+    let b0 = byte_at(area, s, points, m, ds, 0, row, ts, es);
+    let b1 = byte_at(area, s, points, m, ds, 1, row, ts, es);
+    let b2 = byte_at(area, s, points, m, ds, 2, row, ts, es);
+    let b3 = byte_at(area, s, points, m, ds, 3, row, ts, es);
+    (b0 * 256 + b1) * 65536 + (b2 * 256 + b3)
+}
+
+// A row of the block that begins at byte `at`, with zeros from byte `end` on.
+fn end_row(row: &mut [u8], at: usize, end: usize)
+    requires { ⌜ at ≤ end ⌝ }
+    ensures { λ _. ⌜ ((b : List ℕ) → ((q : ℕ) → q < length (now (row .entry)) → getD (now (row .entry)) q 0 ≡ getD b (at + q) 0)
+        → (q : ℕ) → q < length (now (row .entry)) → getD (now (row .exit)) q 0 ≡ kept end b (at + q)) ⌝ }
+{
+    let k = row.len();
+    let from = tree::least(end - at, k);
+    octets::clear_at(row, from, k - from);
+}
+
+// The last row of the block that is encoded afresh, whose message ends before byte `end`.
+fn last_row(
+    area: &[u8],
+    s: usize,
+    points: &[u8],
+    m: &[u8],
+    ds: &[u8],
+    len: usize,
+    end: usize,
+    row: &mut [u8],
+    ts: &mut [u8],
+    es: &mut [u8],
+)
+    requires { ⌜ Ready (length (now area)) s (now points) (now ds) × (length (now m) ≡ suc (length (now points))) × (0 < len) × (len ≤ s)
+        × (length (now row) ≡ length (now points)) × (length (now ts) ≡ length (now points)) × (length (now es) ≡ length (now points))
+        × ((len - 1) * length (now points) ≤ end) ⌝ }
+    ensures { λ _. ⌜ ((b : List ℕ) → Made (now (area .entry)) s (now (points .entry)) (now (m .entry)) (now (ds .entry)) len b
+        → (q : ℕ) → q < length (now (points .entry)) → getD (now (row .exit)) q 0 ≡ kept end b ((len - 1) * length (now (points .entry)) + q)) ⌝ }
+{
+    write_row(area, s, points, m, ds, len - 1, row, ts, es);
+    end_row(row, (len - 1) * points.len(), end);
+}
+
+// The length of the message in the block of len rows, and the last row of the block that is encoded afresh; or 16385 where the block cannot be
+// read. ts and es are room to work in.
+fn read(
+    b: Table,
+    area: &[u8],
+    s: usize,
+    points: &[u8],
+    m: &[u8],
+    ds: &[u8],
+    len: usize,
+    row: &mut [u8],
+    ts: &mut [u8],
+    es: &mut [u8],
+) -> usize
+    requires { ⌜ (limits b ≡ true) × (length (now points) ≡ kOf b) × Ready (length (now area)) s (now points) (now ds)
+        × (length (now m) ≡ suc (length (now points))) × (0 < len) × (len ≤ s)
+        × (length (now row) ≡ length (now points)) × (length (now ts) ≡ length (now points)) × (length (now es) ≡ length (now points)) ⌝ }
+    ensures { λ r. ⌜ ((given : List ℕ) → Made (now (area .entry)) s (now (points .entry)) (now (m .entry)) (now (ds .entry)) len given
+        → Readied b (length (now (points .entry))) len given r (now (row .exit))) ⌝ }
+{
+    let k = points.len();
+    if len * k < 4 {
+        return 16385;
+    }
+    // held against L before 4 is added to it
+    let size = size_in(area, s, points, m, ds, row, ts, es);
+    if b.longest < size {
+        return 16385;
+    }
+    if code::row_count(size, k) != len {
+        return 16385;
+    }
+    last_row(area, s, points, m, ds, len, 4 + size, row, ts, es);
+    size
+}
+
+// What is worked out before the fresh root: the scales ds, the message's length or 16385, the last row. m, ts and es are room to work in.
+fn begin_in(
+    b: Table,
+    area: &[u8],
+    s: usize,
+    points: &[u8],
+    len: usize,
+    m: &mut [u8],
+    ds: &mut [u8],
+    row: &mut [u8],
+    ts: &mut [u8],
+    es: &mut [u8],
+) -> usize
+    requires { ⌜ (limits b ≡ true) × (length (now points) ≡ kOf b) × Ready (length (now area)) s (now points) (now ds)
+        × (length (now m) ≡ suc (length (now points))) × (0 < len) × (len ≤ s)
+        × (length (now row) ≡ length (now points)) × (length (now ts) ≡ length (now points)) × (length (now es) ≡ length (now points)) × Apart (now points) ⌝ }
+    ensures { λ r. ⌜ Master (now (points .entry)) (now (m .exit)) × Scales (now (points .entry)) (now (m .exit)) (now (ds .exit))
+        × ((given : List ℕ) → Made (now (area .entry)) s (now (points .entry)) (now (m .exit)) (now (ds .exit)) len given
+        → Readied b (length (now (points .entry))) len given r (now (row .exit))) ⌝ }
+{
+    rebuilding::prepare(points, m, ts, ds);
+    read(b, area, s, points, m, ds, len, row, ts, es)
+}
+
+// The same, in the front of `room` and of `sum`.
+fn begin(
+    b: Table,
+    area: &[u8],
+    s: usize,
+    points: &[u8],
+    len: usize,
+    ds: &mut [u8],
+    row: &mut [u8],
+    ws: &mut [u8],
+    sum: &mut [u8],
+    room: &mut [u8],
+) -> usize
+    requires { ⌜ (limits b ≡ true) × (length (now points) ≡ kOf b) × Ready (length (now area)) s (now points) (now ds) × (0 < len) × (len ≤ s)
+        × (length (now row) ≡ length (now points)) × (length (now ws) ≡ length (now points)) × (length (now sum) ≡ 64) × (224 ≤ length (now room))
+        × Apart (now points) ⌝ }
+    ensures { λ r. ⌜ ((given : List ℕ) → Whole (now (area .entry)) s (now (points .entry)) len given
+        → ((m : List ℕ) × Made (now (area .entry)) s (now (points .entry)) m (now (ds .exit)) len given
+        × Readied b (length (now (points .entry))) len given r (now (row .exit)))) ⌝ }
+{
+    let k = points.len();
+    let top = k + 1;
+    begin_in(
+        b,
+        area,
+        s,
+        points,
+        len,
+        &mut room[..top],
+        ds,
+        row,
+        ws,
+        &mut sum[..k],
+    )
 }
 
 // Byte p of the block, x: into out, if it is the message's, of `size` bytes.
@@ -322,7 +347,7 @@ fn write_column(
     let mut c = 0;
     while c < len {
         let n = tree::least(len - c, 64);
-        rebuilding::combine(area, s, points, ws, c, n, sum);
+        summing::combine(area, s, points, ws, c, n, sum);
         copy_column(sum, n, out, k, q, c, size);
         c += n;
     }
@@ -341,8 +366,8 @@ fn write_message(
     ws: &mut [u8],
     sum: &mut [u8],
 )
-    requires { ⌜ Ready (length (now area)) s (now points) (now m) (now ds) × (length (now ws) ≡ length (now points)) × (length (now sum) ≡ 64)
-        × (len ≤ s) × (size ≤ 16384) × (size ≤ length (now out)) × (4 + size ≤ len * length (now points)) ⌝ }
+    requires { ⌜ Ready (length (now area)) s (now points) (now ds) × (length (now ws) ≡ length (now points)) × (length (now sum) ≡ 64)
+        × (len ≤ s) × (size ≤ 16384) × (size ≤ length (now out)) × (4 + size ≤ len * length (now points)) × (length (now m) ≡ suc (length (now points))) ⌝ }
     ensures { λ _. ⌜ ((b : List ℕ) → Made (now (area .entry)) s (now (points .entry)) (now (m .entry)) (now (ds .entry)) len b → now (out .exit) ≡ put 0 (part 4 size b) (now (out .entry))) ⌝ }
 {
     let mut i = points.len();
@@ -354,51 +379,58 @@ fn write_message(
     }
 }
 
-// The message that the block of len rows holds, into out, if the block can be read and its message has the root; else void.
-// row, ws, sum and waiting are room to work in.
-fn deliver_by(
-    b: Table,
+// What is worked out after the fresh root: the message, of `size` bytes. m, ds, ws and sum are room to work in.
+fn finish_in(
     area: &[u8],
     s: usize,
     points: &[u8],
-    m: &[u8],
-    ds: &[u8],
     len: usize,
-    root: &[u8],
+    size: usize,
     out: &mut [u8],
-    row: &mut [u8],
+    m: &mut [u8],
+    ds: &mut [u8],
     ws: &mut [u8],
     sum: &mut [u8],
-    waiting: &mut [u8],
-) -> Delivered
-    requires { ⌜ (limits b ≡ true) × (length (now points) ≡ kOf b) × Ready (length (now area)) s (now points) (now m) (now ds) × (0 < len) × (len ≤ s)
-        × (length (now root) ≡ 32) × (b .longest ≤ length (now out)) × (length (now row) ≡ length (now points)) × (length (now ws) ≡ length (now points))
-        × (length (now sum) ≡ 64) × (192 ≤ length (now waiting)) ⌝ }
-    ensures { λ r. ⌜ ((given : List ℕ) → Made (now (area .entry)) s (now (points .entry)) (now (m .entry)) (now (ds .entry)) len given
-        → left r (now (out .exit)) ≡ leftBy (afresh b (now (root .entry)) given) (now (out .entry))) ⌝ }
+)
+    requires { ⌜ Ready (length (now area)) s (now points) (now ds) × (length (now ws) ≡ length (now points)) × (length (now sum) ≡ 64)
+        × (len ≤ s) × (size ≤ 16384) × (size ≤ length (now out)) × (4 + size ≤ len * length (now points)) × (length (now m) ≡ suc (length (now points)))
+        × Apart (now points) ⌝ }
+    ensures { λ _. ⌜ ((given : List ℕ) → Whole (now (area .entry)) s (now (points .entry)) len given → now (out .exit) ≡ put 0 (part 4 size given) (now (out .entry))) ⌝ }
 {
-    let k = points.len();
-    if len * k < 4 {
-        return void();
-    }
-    // held against L before 4 is added to it
-    let size = size_in(area, s, points, m, ds, ws, sum);
-    if b.longest < size {
-        return void();
-    }
-    if code::row_count(size, k) != len {
-        return void();
-    }
-    write_row(area, s, points, m, ds, len - 1, 4 + size, row, ws, sum);
-    let fresh = fresh_root(area, s, points, m, ds, row, len, b.n, ws, sum, waiting);
-    if !octets::same_at(&fresh, 0, root, 0, 32) {
-        return void();
-    }
+    rebuilding::prepare(points, m, ws, ds);
     write_message(area, s, points, m, ds, len, size, out, ws, sum);
-    Delivered {
-        kind: 1,
-        length: size as u32,
-    }
+}
+
+// The same, in the front of `room`.
+fn finish(
+    area: &[u8],
+    s: usize,
+    points: &[u8],
+    len: usize,
+    size: usize,
+    out: &mut [u8],
+    ds: &mut [u8],
+    ws: &mut [u8],
+    sum: &mut [u8],
+    room: &mut [u8],
+)
+    requires { ⌜ Ready (length (now area)) s (now points) (now ds) × (length (now ws) ≡ length (now points)) × (length (now sum) ≡ 64)
+        × (len ≤ s) × (size ≤ 16384) × (size ≤ length (now out)) × (4 + size ≤ len * length (now points)) × (224 ≤ length (now room)) × Apart (now points) ⌝ }
+    ensures { λ _. ⌜ ((given : List ℕ) → Whole (now (area .entry)) s (now (points .entry)) len given → now (out .exit) ≡ put 0 (part 4 size given) (now (out .entry))) ⌝ }
+{
+    let top = points.len() + 1;
+    finish_in(
+        area,
+        s,
+        points,
+        len,
+        size,
+        out,
+        &mut room[..top],
+        ds,
+        ws,
+        sum,
+    );
 }
 
 // The length given for board x.
@@ -426,8 +458,8 @@ fn all_of_length(lengths: &[u8], points: &[u8], len: usize) -> bool
     true
 }
 
-// The message that the fragments at the points give, all of len bytes, if it has the root; else void. m, ds, row, ws, sum and waiting are
-// room to work in.
+// The message that the fragments at the points give, all of len bytes, if it has the root; else void. ds, row, ws, sum and room are room to work
+// in: the product of all X - x is in `room` before and after the fresh root, whose hashes wait there.
 fn deliver_in(
     b: Table,
     area: &[u8],
@@ -436,36 +468,32 @@ fn deliver_in(
     len: usize,
     root: &[u8],
     out: &mut [u8],
-    m: &mut [u8],
     ds: &mut [u8],
     row: &mut [u8],
     ws: &mut [u8],
     sum: &mut [u8],
-    waiting: &mut [u8],
+    room: &mut [u8],
 ) -> Delivered
-    requires { ⌜ (limits b ≡ true) × (length (now points) ≡ kOf b) × Ready (length (now area)) s (now points) (now m) (now ds) × (0 < len) × (len ≤ s)
+    requires { ⌜ (limits b ≡ true) × (length (now points) ≡ kOf b) × Ready (length (now area)) s (now points) (now ds) × (0 < len) × (len ≤ s)
         × (length (now root) ≡ 32) × (b .longest ≤ length (now out)) × (length (now row) ≡ length (now points)) × (length (now ws) ≡ length (now points))
-        × (length (now sum) ≡ 64) × (192 ≤ length (now waiting)) × Apart (now points) ⌝ }
+        × (length (now sum) ≡ 64) × (224 ≤ length (now room)) × Apart (now points) ⌝ }
     ensures { λ r. ⌜ ((fragment : ℕ → List ℕ) → ((i : ℕ) → i < length (now (points .entry))
         → fragment (getD (now (points .entry)) i 0) ≡ part ((getD (now (points .entry)) i 0 - 1) * s) len (now (area .entry)))
         → left r (now (out .exit)) ≡ leftBy (afresh b (now (root .entry)) (blockThrough len (now (points .entry)) fragment)) (now (out .entry))) ⌝ }
 {
-    rebuilding::prepare(points, m, ds);
-    deliver_by(
-        b,
-        area,
-        s,
-        points,
-        m,
-        ds,
-        len,
-        root,
-        out,
-        row,
-        ws,
-        sum,
-        waiting,
-    )
+    let size = begin(b, area, s, points, len, ds, row, ws, sum, room);
+    if 16384 < size {
+        return void();
+    }
+    afresh::fresh_root(area, s, points, ds, row, len, b.n, ws, sum, room);
+    if !octets::same_at(room, 0, root, 0, 32) {
+        return void();
+    }
+    finish(area, s, points, len, size, out, ds, ws, sum, room);
+    Delivered {
+        kind: 1,
+        length: size as u32,
+    }
 }
 
 // What the k fragments at the points give, in rooms of s_max bytes.
@@ -490,13 +518,11 @@ fn deliver_from(
     if !all_of_length(lengths, points, len) {
         return void();
     }
-    let top = k + 1;
-    let mut m = [0u8; 65];
     let mut ds = [0u8; 64];
     let mut row = [0u8; 64];
     let mut ws = [0u8; 64];
     let mut sum = [0u8; 64];
-    let mut waiting = [0u8; 192];
+    let mut room = [0u8; 224];
     deliver_in(
         b,
         area,
@@ -505,12 +531,11 @@ fn deliver_from(
         len,
         root,
         out,
-        &mut m[..top],
         &mut ds[..k],
         &mut row[..k],
         &mut ws[..k],
         &mut sum,
-        &mut waiting,
+        &mut room,
     )
 }
 

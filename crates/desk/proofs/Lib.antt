@@ -1,6 +1,4 @@
--- Laws of `desk`: Slots and Zeros of the lent buffers, Bounds of a step's results, Handed of the records handed over, Starts of the fresh states, Steps of the receiver's, Turns of what a step of the drill leaves.
-pub mod Slots
-pub mod Zeros
+-- Laws of `desk`: Bounds of a step's results, Handed of the sender's record, Starts of the fresh states, Steps of the receiver's, Turns of what a step of the drill leaves.
 pub mod Bounds
 pub mod Handed
 pub mod Starts

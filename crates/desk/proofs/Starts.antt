@@ -18,10 +18,11 @@ use Rattle.boards.specs.declared.Table.{Table}
 use Rattle.state.specs.State.{stateSize}
 use Rattle.state.specs.Sound.{isBoard}
 use Rattle.board.specs.Started.{Begun, begun, freshBytes, startOf}
-use Rattle.desk.specs.Boards.{Boards, zeros, fresh}
-use Rattle.desk.specs.Room.{stateAt, slot, boardsIn}
-use Rattle.desk.proofs.Slots.{state-case}
-use Rattle.desk.proofs.Zeros.{zeros-length, slot-zero, part-zero}
+use Rattle.slots.specs.Held.{Boards, zeros}
+use Rattle.desk.specs.Boards.{fresh}
+use Rattle.slots.specs.Room.{stateAt, slot, boardsIn}
+use Rattle.slots.proofs.Slots.{state-case}
+use Rattle.slots.proofs.Zeros.{zeros-length, slot-zero, part-zero}
 
 -- a part that was lent and came back is a put
 pub mid-put : (a e : ℕ) (xs ys : List ℕ) → a ≤ e → e ≤ length xs → length ys ≡ e - a → putMid a (e - a) xs ys ≡ put a ys xs

@@ -9,10 +9,10 @@ use Rattle.octets.specs.Bytes.{part, put}
 use Rattle.octets.proofs.Laws.{length-part}
 use Rattle.step.specs.declared.Stepped.{Stepped}
 use Rattle.step.specs.Step.{Outcome, outcome, stepOf}
-use Rattle.desk.specs.Boards.{zeros}
-use Rattle.desk.specs.Room.{stateAt}
+use Rattle.slots.specs.Held.{zeros}
+use Rattle.slots.specs.Room.{stateAt}
 use Rattle.desk.specs.Asked.{stepAt, Stepping}
-use Rattle.desk.proofs.Zeros.{zeros-length}
+use Rattle.slots.proofs.Zeros.{zeros-length}
 use Rattle.desk.proofs.Starts.{mid-put}
 use Rattle.desk.proofs.Bounds.{Bounded, step-bounded}
 

@@ -8,11 +8,12 @@ use lib.ListN.{length, getD, take}
 use Rattle.octets.specs.Bytes.{pick}
 use Rattle.boards.specs.declared.Table.{Table}
 use Rattle.step.specs.declared.Stepped.{Stepped}
-use Rattle.desk.specs.Boards.{Boards, putOutYet, recordFor, stepIn, putBy, noted, moved, actOf, shown, turn, taken, missing, turnBy}
-use Rattle.desk.specs.Room.{boardsIn}
+use Rattle.slots.specs.Held.{Boards, putOutYet, noted, moved, actOf}
+use Rattle.desk.specs.Boards.{recordFor, stepIn, putBy, shown, turn, taken, missing, turnBy}
+use Rattle.slots.specs.Room.{boardsIn}
 use Rattle.state.proofs.Facts.{board-number}
 use Rattle.desk.specs.Asked.{stepAt, Handing, Stepping}
-use Rattle.desk.proofs.Slots.{state-put}
+use Rattle.slots.proofs.Slots.{state-put}
 
 step-same : (states kept : List ℕ) (from to : ℕ) (r : List ℕ) → stepIn (boardsIn states kept) from to r ≡ stepAt states from to r
 unfolding stepIn boardsIn stepAt

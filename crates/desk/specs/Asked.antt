@@ -10,8 +10,8 @@ use Rattle.boards.specs.declared.Table.{Table}
 use Rattle.state.specs.Sound.{isBoard}
 use Rattle.step.specs.Step.{Outcome, stepOf}
 use Rattle.step.specs.declared.Stepped.{Stepped}
-use Rattle.desk.specs.Boards.{zeros}
-use Rattle.desk.specs.Room.{stateAt}
+use Rattle.slots.specs.Held.{zeros}
+use Rattle.slots.specs.Room.{stateAt}
 
 -- a table of a drill: n up to 7 and L up to 64
 pub record Small (b : Table) : Type 0 where

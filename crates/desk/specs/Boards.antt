@@ -1,9 +1,8 @@
--- Document 01, "The drill program": the boards of a drill, and what one step does with them. The quoted words are that section's.
+-- Document 01, "The drill program": what one step does with the boards of a drill. The quoted words are that section's.
 use Prim.Native.Nat.{ℕ, _+_, _-_}
 use mathlib.Core.List.{List, []}
-use mathlib.Core.Bool.{Bool, true}
 use lib.Dec.{ltb, eqb}
-use lib.ListN.{length, getD, take, replicate}
+use lib.ListN.{getD, take}
 use Rattle.octets.specs.Bytes.{pick}
 use Rattle.boards.specs.declared.Table.{Table}
 use Rattle.words.specs.Words.{word}
@@ -12,21 +11,8 @@ use Rattle.script.specs.Lines.{kindIn, fromIn, toIn}
 use Rattle.board.specs.Started.{startOf}
 use Rattle.sending.specs.Sent.{sendRecord}
 use Rattle.step.specs.Step.{Outcome, stepOf}
-use Rattle.desk.specs.declared.Shown.{Shown}
-
--- what is known of the boards: of board i + 1 its state, and the echo and the vote that it has put out, no bytes before it has
-pub record Boards : Type 0 where
-  pub state : ℕ → List ℕ
-  pub echo : ℕ → List ℕ
-  pub vote : ℕ → List ℕ
-
--- a clean buffer of n bytes
-unfoldable pub zeros : ℕ → List ℕ
-zeros n = replicate n 0
-
--- f, but v at i
-abbrev pub changed : (ℕ → List ℕ) → ℕ → List ℕ → ℕ → List ℕ
-changed f i v = λ j. pick (eqb j i) v (f j)
+use Rattle.slots.specs.Held.{Boards, zeros, putOutYet, noted, moved, actOf}
+use Rattle.printing.specs.declared.Shown.{Shown}
 
 -- at first: "a board keeps the rules if it starts once". A state buffer of 5,084 bytes is long enough: n × s_max is at most 7 × 68
 unfoldable pub fresh : Table → Boards
@@ -35,15 +21,6 @@ fresh b = record {
   echo = λ i. [];
   vote = λ i. [];
 }
-
--- "s 1 2 hands board 1's send to board 2; e, v likewise": whether the record was put out. "A rule-keeping sender puts out its n send
--- records", no other board has one; raw bytes are always there
-unfoldable pub putOutYet : Table → Boards → ℕ → ℕ → Bool
-putOutYet b B kind from =
-    pick (eqb kind 115) (eqb from (b .sender))
-    (pick (eqb kind 101) (ltb 0 (length (B .echo (from - 1))))
-    (pick (eqb kind 118) (ltb 0 (length (B .vote (from - 1))))
-    true))
 
 -- the record handed over: "the sender's record for board j is worked out from table, message and j"; "r 3 2 hex hands raw bytes"
 unfoldable pub recordFor : Table → List ℕ → Boards → ℕ → ℕ → ℕ → List ℕ → List ℕ
@@ -60,22 +37,6 @@ stepIn B from to r = stepOf (B .state (to - 1)) from r (zeros 16619) (zeros 64)
 -- the record that a step put out; no bytes for none
 unfoldable pub putBy : Outcome → List ℕ
 putBy x = take (x .answer .«record_length») (x .out)
-
--- board i + 1 has put out a record, by its kind byte an echo or a vote, or none
-unfoldable pub noted : Boards → ℕ → List ℕ → Boards
-noted B i w = record {
-  state = B .state;
-  echo = pick (eqb (getD w 0 0) 2) (changed (B .echo) i w) (B .echo);
-  vote = pick (eqb (getD w 0 0) 3) (changed (B .vote) i w) (B .vote);
-}
-
--- board i + 1 has a new state
-unfoldable pub moved : Boards → ℕ → List ℕ → Boards
-moved B i s = record { state = changed (B .state) i s; echo = B .echo; vote = B .vote }
-
--- "act is the record put out: e, v or -" (101, 118, 45), by its kind byte
-unfoldable pub actOf : ℕ → ℕ
-actOf kind = pick (eqb kind 2) 101 (pick (eqb kind 3) 118 45)
 
 -- "answer is the refusal number or 0"; the act; the delivery (0 none, 1 a message, 2 void) and the message's length
 abbrev pub shown : ℕ → ℕ → ℕ → ℕ → Shown

@@ -12,12 +12,15 @@ use Rattle.boards.specs.declared.Table.{Table}
 use Rattle.words.specs.Words.{upto, past}
 use Rattle.script.specs.declared.Breakers.{Breakers}
 use Rattle.script.specs.Lines.{rightStep}
-use Rattle.desk.specs.Boards.{Boards, turnOf}
-use Rattle.desk.specs.Room.{boardsIn}
+use Rattle.slots.specs.Held.{Boards}
+use Rattle.desk.specs.Boards.{turnOf}
+use Rattle.slots.specs.Room.{boardsIn}
 use Rattle.desk.specs.Asked.{Room}
-use Rattle.drill.specs.Text.{lineText, bad}
-use Rattle.drill.specs.Drill.{lineRight, stepsFrom}
-use Rattle.drill.specs.Asked.{Printed, Stepped}
+use Rattle.printing.specs.Text.{lineText, bad}
+use Rattle.opening.specs.Opened.{lineRight}
+use Rattle.drill.specs.Drill.{stepsFrom}
+use Rattle.printing.specs.Printed.{Printed}
+use Rattle.drill.specs.Asked.{Stepped}
 use Rattle.drill.proofs.Nexts.{not-right, is-right}
 
 -- with `left` printed from p on in t, `whole` is printed from p₀ on in t₀

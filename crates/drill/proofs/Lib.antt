@@ -1,5 +1,4 @@
--- Laws of `drill`: Prints of text one after the other, Nexts of the next line, Goings of the steps, Openings of the four lines before them, Promises of the call.
-pub mod Prints
+-- Laws of `drill`: Nexts of the next line, Goings of the steps, Openings of the four lines before them, Promises of the call.
 pub mod Nexts
 pub mod Goings
 pub mod Openings

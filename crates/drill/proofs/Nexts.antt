@@ -1,35 +1,26 @@
 -- The next line of the input, and what a right step gives.
-use mathlib.Core.Path.{_≡_, refl, sym, ap, _∙_}
-use Prim.Native.Nat.{ℕ, _+_, _-_, _≤_, _<_}
+use mathlib.Core.Path.{_≡_, ap}
+use Prim.Native.Nat.{ℕ, _-_}
 use mathlib.Core.List.{List}
-use mathlib.Core.Bool.{Bool, true, false, not, _&&_}
-use native.Mathlib.Omega.{arith}
-use borrow.Author.Tests.{lt-ltb, le-ltb, leb-true}
-use lib.Dec.{ltb}
-use lib.ListN.{length, take, drop, length-drop}
+use mathlib.Core.Bool.{Bool, true, false}
+use borrow.Author.Tests.{leb-true}
+use lib.ListN.{length}
 use Rattle.octets.specs.Bytes.{pick}
 use Rattle.octets.proofs.Picks.{and-l, and-r}
 use Rattle.boards.specs.declared.Table.{Table}
 use Rattle.state.specs.Sound.{isBoard}
 use Rattle.words.specs.Words.{upto, past}
-use Rattle.words.proofs.Finding.{upto-part}
 use Rattle.script.specs.declared.Breakers.{Breakers}
 use Rattle.script.specs.Lines.{fits, kindIn, fromIn, toIn, rightKind, rightWords, rightBoards, rightStep}
-use Rattle.desk.specs.declared.Shown.{Shown}
-use Rattle.desk.specs.Boards.{Boards, Turn, turn, turnOf}
+use Rattle.printing.specs.declared.Shown.{Shown}
+use Rattle.slots.specs.Held.{Boards}
+use Rattle.desk.specs.Boards.{Turn, turn, turnOf}
 use Rattle.desk.specs.Asked.{Handing}
-use Rattle.drill.specs.Text.{lineText, bad}
-use Rattle.drill.specs.Drill.{lineRight, onLine}
-use Rattle.drill.specs.Asked.{Printed, Stepped, Fitting}
-
-module _ (right : List ℕ → Bool) (s : List ℕ) (at : ℕ) where
-  pub no-line : length s ≤ at → false ≡ lineRight right (drop at s)
-  unfolding lineRight
-  no-line h = let q : length s - at ≤ 0 = omega arith in rw (length-drop at s, le-ltb 0 (length s - at) q)
-
-  pub a-line : (e : ℕ) → at < length s → e ≡ at + length (upto 10 (drop at s)) → (r : Bool) → r ≡ right (take (e - at) (drop at s)) → r ≡ lineRight right (drop at s)
-  unfolding lineRight
-  a-line e h f r g = let q : 0 < length s - at = omega arith in rw (length-drop at s, lt-ltb 0 (length s - at) q, upto-part 10 s at e f) g
+use Rattle.printing.specs.Text.{lineText, bad}
+use Rattle.opening.specs.Opened.{lineRight}
+use Rattle.drill.specs.Drill.{onLine}
+use Rattle.printing.specs.Printed.{Printed}
+use Rattle.drill.specs.Asked.{Stepped, Fitting}
 
 -- a line that is not right, and one that is
 module _ (right : List ℕ → Bool) (number : ℕ) (rest : List ℕ) (next : List ℕ → List ℕ → List ℕ) where
@@ -40,10 +31,6 @@ module _ (right : List ℕ → Bool) (number : ℕ) (rest : List ℕ) (next : Li
   pub is-right : lineRight right rest ≡ true → onLine right number rest next ≡ next (upto 10 rest) (past 10 rest)
   unfolding onLine pick
   is-right e = rw e
-
-pub right-line : (right : List ℕ → Bool) (rest : List ℕ) → lineRight right rest ≡ true → right (upto 10 rest) ≡ true
-unfolding lineRight
-right-line right rest e = and-r (ltb 0 (length rest)) (right (upto 10 rest)) e
 
 -- a right step can be handed over
 pub handing : (b : Table) (x : Breakers) (message l kept : List ℕ) → Fitting b message → rightStep b x l ≡ true → length kept ≡ 14336

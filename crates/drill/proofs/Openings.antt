@@ -1,107 +1,151 @@
 -- The four lines before the steps, and the whole.
 use mathlib.Core.Path.{_≡_, refl, sym, ap, _∙_}
-use Prim.Native.Nat.{ℕ, _+_, _-_, _*_, _/_, _≤_, _<_}
-use mathlib.Core.List.{List, [], _++_}
-use mathlib.Core.Bool.{true, false, _||_}
+use Prim.Native.Nat.{ℕ, _+_, _≤_}
+use mathlib.Core.List.{List, _++_}
+use mathlib.Core.Bool.{Bool, true, false}
 use native.Mathlib.Omega.{arith}
-use borrow.Author.Tests.{leb-true, eqb-true, ltb-false}
-use lib.Dec.{leb, eqb, ltb}
+use borrow.Author.Tests.{leb-true, ltb-false, eq-eqb, ne-eqb}
+use lib.Dec.{leb, ltb, eqb}
 use lib.ListN.{length, take, drop}
 use lib.Seq.{sets-eq}
 use Rattle.octets.specs.Bytes.{pick, put}
-use Rattle.octets.proofs.Picks.{and-l, and-r, or-none-l, or-none-r}
+use Rattle.octets.proofs.Picks.{pick-on, pick-off, and-l, and-r, or-none-l, or-none-r}
 use Rattle.boards.specs.Table.{limits}
 use Rattle.boards.specs.declared.Table.{Table}
 use Rattle.words.specs.Words.{upto, past, word}
-use Rattle.words.specs.Numbers.{numberOf, isHex, bytesOf}
+use Rattle.words.proofs.Counting.{bytes-length}
 use Rattle.script.specs.declared.Breakers.{Breakers}
-use Rattle.script.specs.Lines.{form, spacesFor, tableIn, rightTable, breakersIn, rightBreakers, messageIn, rightMessage, countIn, rightCount}
-use Rattle.desk.specs.Boards.{Boards, fresh, zeros}
-use Rattle.desk.specs.Asked.{Small, Room}
-use Rattle.desk.proofs.Zeros.{zeros-length}
-use Rattle.drill.specs.Text.{heading, bad}
-use Rattle.drill.specs.Drill.{lineRight, stepsFrom, fromLine4, fromLine3, fromLine2, fromLine1, drillOf}
+use Rattle.script.specs.Lines.{form, tableIn, rightTable, breakersIn, rightBreakers, messageIn, rightMessage, countIn, rightCount}
+use Rattle.opening.specs.declared.Opening.{Opening}
+use Rattle.opening.specs.Opened.{Begin, wrong, begins, lineRight, opening4, opening3, opening2, opening1}
+use Rattle.opening.specs.Said.{saidBy}
+use Rattle.opening.proofs.Nexts.{right-line}
+use Rattle.opening.proofs.Opens.{message-few}
+use Rattle.printing.specs.Text.{heading, bad}
+use Rattle.printing.specs.Printed.{Printed}
+use Rattle.printing.proofs.Prints.{then, put-printed}
+use Rattle.slots.specs.Held.{Boards, zeros}
+use Rattle.desk.specs.Boards.{fresh}
+use Rattle.desk.specs.Asked.{Small}
+use Rattle.slots.proofs.Zeros.{zeros-length}
+use Rattle.drill.specs.Drill.{onLine, stepsFrom, fromLine4, fromLine3, fromLine2, fromLine1, drillOf}
 use Rattle.drill.specs.Call.{Lent, lent, isShort, leftBy, drilled, drillOut, callOf}
-use Rattle.drill.specs.Asked.{Printed, Ended}
-use Rattle.drill.specs.declared.Drilled.{Drilled}
-use Rattle.drill.proofs.Prints.{then, put-printed}
-use Rattle.drill.proofs.Nexts.{not-right, is-right, right-line}
+use Rattle.drill.specs.Asked.{Opens, Fitting, Ended, Long, Left}
 
--- ---- line 4
+-- ---- the four lines
 
-module _ (b : Table) (x : Breakers) (message rest : List ℕ) {p : ℕ} {old new : List ℕ} {q : ℕ} where
-  pub line4-bad : lineRight rightCount rest ≡ false → Printed (bad 4) p old new q → Printed (fromLine4 b x message rest) p old new q
-  unfolding fromLine4
-  line4-bad e w = rw (not-right rightCount 4 rest _ e) w
+-- what is printed after them
+printedBy : Begin → List ℕ
+printedBy (wrong n) = bad n
+printedBy (begins b x message count rest) = stepsFrom b x message count 1 rest (fresh b)
 
-  pub line4-right : lineRight rightCount rest ≡ true → (n : ℕ) (more : List ℕ) (B : Boards) → n ≡ countIn (upto 10 rest) → more ≡ past 10 rest → B ≡ fresh b
-      → Printed (stepsFrom b x message n 1 more B) p old new q → Printed (fromLine4 b x message rest) p old new q
-  unfolding fromLine4
-  line4-right e n more B en em eb w = rw (is-right rightCount 4 rest _ e, ← en, ← em, ← eb) w
+by-case : (c : Bool) (number : ℕ) (v : List ℕ) (a : Begin) → v ≡ printedBy a → pick c v (bad number) ≡ printedBy (pick c a (wrong number))
+unfolding pick printedBy
+by-case true number v a e = e
+by-case false number v a e = refl
 
-pub count-few : (rest : List ℕ) (n : ℕ) → lineRight rightCount rest ≡ true → n ≡ countIn (upto 10 rest) → n ≤ 1000
+on-opening : (right : List ℕ → Bool) (number : ℕ) (rest : List ℕ) (next : List ℕ → List ℕ → List ℕ) (a : Begin)
+    → next (upto 10 rest) (past 10 rest) ≡ printedBy a → onLine right number rest next ≡ printedBy (pick (lineRight right rest) a (wrong number))
+unfolding onLine
+on-opening right number rest next a e = by-case (lineRight right rest) number (next (upto 10 rest) (past 10 rest)) a e
+
+line4-opens : (b : Table) (x : Breakers) (message rest : List ℕ) → fromLine4 b x message rest ≡ printedBy (opening4 b x message rest)
+unfolding fromLine4 opening4 printedBy
+line4-opens b x message rest = on-opening rightCount 4 rest _ _ refl
+
+line3-opens : (b : Table) (x : Breakers) (rest : List ℕ) → fromLine3 b x rest ≡ printedBy (opening3 b x rest)
+unfolding fromLine3 opening3
+line3-opens b x rest = on-opening (rightMessage b) 3 rest _ _ (line4-opens b x _ _)
+
+line2-opens : (b : Table) (rest : List ℕ) → fromLine2 b rest ≡ printedBy (opening2 b rest)
+unfolding fromLine2 opening2
+line2-opens b rest = on-opening (rightBreakers b) 2 rest _ _ (line3-opens b _ _)
+
+line1-opens : (rest : List ℕ) → fromLine1 rest ≡ printedBy (opening1 rest)
+unfolding fromLine1 opening1
+line1-opens rest = on-opening rightTable 1 rest _ _ (line2-opens _ _)
+
+-- all four are right
+all-right : (c : Bool) (n : ℕ) (a : Begin) (b : Table) (x : Breakers) (m : List ℕ) (k : ℕ) (rest : List ℕ) → pick c a (wrong n) ≡ begins b x m k rest
+    → (c ≡ true) × (a ≡ begins b x m k rest)
+unfolding pick
+all-right true n a b x m k rest e = (refl, e)
+all-right false n a b x m k rest e = absurd (let z : _≡_ {A = ℕ} 0 1 = cc in omega arith)
+
+count-few : (rest : List ℕ) → lineRight rightCount rest ≡ true → countIn (upto 10 rest) ≤ 1000
 unfolding rightCount
-count-few rest n e g = rw g (leb-true (countIn (upto 10 rest)) 1000 (and-r (form (upto 10 rest) 0) _ (right-line rightCount rest e)))
-
--- ---- line 3
-
-module _ (b : Table) (x : Breakers) (rest : List ℕ) {p : ℕ} {old new : List ℕ} {q : ℕ} where
-  pub line3-bad : lineRight (rightMessage b) rest ≡ false → Printed (bad 3) p old new q → Printed (fromLine3 b x rest) p old new q
-  unfolding fromLine3
-  line3-bad e w = rw (not-right (rightMessage b) 3 rest _ e) w
-
-  pub line3-right : lineRight (rightMessage b) rest ≡ true → (m more : List ℕ) → m ≡ messageIn (upto 10 rest) → more ≡ past 10 rest
-      → Printed (fromLine4 b x m more) p old new q → Printed (fromLine3 b x rest) p old new q
-  unfolding fromLine3
-  line3-right e m more en em w = rw (is-right (rightMessage b) 3 rest _ e, ← en, ← em) w
-
--- a right message has at most L bytes
-pub message-few : (b : Table) (l : List ℕ) → rightMessage b l ≡ true → length (word 1 l) / 2 ≤ b .longest
-unfolding rightMessage
-message-few b l e =
-    let c = numberOf (word 0 l) in
-    let r = and-r (form l (spacesFor c)) _ e in
-    let few : c ≤ b .longest = leb-true c (b .longest) (and-l (leb c (b .longest)) _ r) in
-    let size : length (word 1 l) ≡ 2 * c = eqb-true (length (word 1 l)) (2 * c) (and-r (isHex (word 1 l)) _ (and-r (leb c (b .longest)) _ r)) in
-    omega arith
-
--- ---- line 2
-
-module _ (b : Table) (rest : List ℕ) {p : ℕ} {old new : List ℕ} {q : ℕ} where
-  pub line2-bad : lineRight (rightBreakers b) rest ≡ false → Printed (bad 2) p old new q → Printed (fromLine2 b rest) p old new q
-  unfolding fromLine2
-  line2-bad e w = rw (not-right (rightBreakers b) 2 rest _ e) w
-
-  pub line2-right : lineRight (rightBreakers b) rest ≡ true → (x : Breakers) (more : List ℕ) → x ≡ breakersIn (upto 10 rest) → more ≡ past 10 rest
-      → Printed (fromLine3 b x more) p old new q → Printed (fromLine2 b rest) p old new q
-  unfolding fromLine2
-  line2-right e x more en em w = rw (is-right (rightBreakers b) 2 rest _ e, ← en, ← em) w
-
--- ---- line 1
-
-module _ (rest : List ℕ) {p : ℕ} {old new : List ℕ} {q : ℕ} where
-  pub line1-bad : lineRight rightTable rest ≡ false → Printed (bad 1) p old new q → Printed (fromLine1 rest) p old new q
-  unfolding fromLine1
-  line1-bad e w = rw (not-right rightTable 1 rest _ e) w
-
-  pub line1-right : lineRight rightTable rest ≡ true → (b : Table) (more : List ℕ) → b ≡ tableIn (upto 10 rest) → more ≡ past 10 rest
-      → Printed (fromLine2 b more) p old new q → Printed (fromLine1 rest) p old new q
-  unfolding fromLine1
-  line1-right e b more en em w = rw (is-right rightTable 1 rest _ e, ← en, ← em) w
+count-few rest e = leb-true (countIn (upto 10 rest)) 1000 (and-r (form (upto 10 rest) 0) _ (right-line rightCount rest e))
 
 -- a right table is a drill's
-pub small-table : (rest : List ℕ) (b : Table) → lineRight rightTable rest ≡ true → b ≡ tableIn (upto 10 rest) → Small b
+small-table : (rest : List ℕ) → lineRight rightTable rest ≡ true → Small (tableIn (upto 10 rest))
 unfolding rightTable
-small-table rest b e g =
+small-table rest e =
     let t = tableIn (upto 10 rest) in
     let r = and-r (form (upto 10 rest) 3) _ (right-line rightTable rest e) in
     let s = and-r (limits t) _ r in
-    rw g
-    (record {
+    record {
       limited = and-l (limits t) _ r;
       few = leb-true (t .n) 7 (and-l (leb (t .n) 7) _ s);
       short = leb-true (t .longest) 64 (and-r (leb (t .n) 7) _ s);
-    })
+    }
+
+message-short : (b : Table) (rest : List ℕ) → lineRight (rightMessage b) rest ≡ true → length (messageIn (upto 10 rest)) ≤ b .longest
+unfolding messageIn
+message-short b rest e =
+    let few = message-few b (upto 10 rest) (right-line (rightMessage b) rest e) in
+    let l = bytes-length (word 1 (upto 10 rest)) in
+    omega arith
+
+module _ (b : Table) (x : Breakers) (m : List ℕ) (k : ℕ) (more : List ℕ) where
+  right4 : (t : Table) (y : Breakers) (w rest : List ℕ) → opening4 t y w rest ≡ begins b x m k more → (t ≡ b) × (w ≡ m) × (k ≤ 1000)
+  unfolding opening4
+  right4 t y w rest e =
+      let h = all-right (lineRight rightCount rest) 4 _ b x m k more e in
+      let z = h .1 in
+      let q : countIn (upto 10 rest) ≡ k = cc z in
+      (cc z, cc z, rw q at (count-few rest (h .0)))
+
+  right3 : (t : Table) (y : Breakers) (rest : List ℕ) → opening3 t y rest ≡ begins b x m k more → (t ≡ b) × (length m ≤ t .longest) × (k ≤ 1000)
+  unfolding opening3
+  right3 t y rest e =
+      let h = all-right (lineRight (rightMessage t) rest) 3 _ b x m k more e in
+      let g = right4 t y (messageIn (upto 10 rest)) (past 10 rest) (h .1) in
+      (g .0, rw (g .1) at (message-short t rest (h .0)), g .2)
+
+  right2 : (t : Table) (rest : List ℕ) → opening2 t rest ≡ begins b x m k more → (t ≡ b) × (length m ≤ t .longest) × (k ≤ 1000)
+  unfolding opening2
+  right2 t rest e = right3 t (breakersIn (upto 10 rest)) (past 10 rest) (all-right (lineRight (rightBreakers t) rest) 2 _ b x m k more e .1)
+
+  right1 : (rest : List ℕ) → opening1 rest ≡ begins b x m k more → Fitting b m × (k ≤ 1000)
+  unfolding opening1
+  right1 rest e =
+      let h = all-right (lineRight rightTable rest) 1 _ b x m k more e in
+      let g = right2 (tableIn (upto 10 rest)) (past 10 rest) (h .1) in
+      let f : Fitting (tableIn (upto 10 rest)) m = record { small = small-table rest (h .0); fits = g .1 } in
+      (rw (g .0) at f, g .2)
+
+-- what an answer of the opening gives
+module _ (o : Opening) (message input : List ℕ) (w : Opens o message input) where
+  says-right : o .bad ≡ 0 → opening1 input ≡ begins (o .table) (o .breakers) (take (o .size) message) (o .count) (drop (o .at) input)
+  unfolding saidBy
+  says-right e = sym (w .says) ∙ sym (pick-on (eqb (o .bad) 0) _ _ _ (eq-eqb (o .bad) 0 e) refl)
+
+  says-wrong : (o .bad ≡ 0 → ⊥) → opening1 input ≡ wrong (o .bad)
+  unfolding saidBy
+  says-wrong n = sym (w .says) ∙ sym (pick-off (eqb (o .bad) 0) _ _ _ (ne-eqb (o .bad) 0 n) refl)
+
+  pub opened-fits : o .bad ≡ 0 → Fitting (o .table) (take (o .size) message) × (o .count ≤ 1000)
+  opened-fits e = right1 (o .table) (o .breakers) (take (o .size) message) (o .count) (drop (o .at) input) input (says-right e)
+
+  module _ (p : ℕ) (old new : List ℕ) (q : ℕ) where
+    pub opened-bad : (o .bad ≡ 0 → ⊥) → Printed (bad (o .bad)) p old new q → Printed (fromLine1 input) p old new q
+    unfolding printedBy
+    opened-bad n v = rw (line1-opens input ∙ ap printedBy (says-wrong n)) v
+
+    pub opened-steps : o .bad ≡ 0 → (B : Boards) → B ≡ fresh (o .table)
+        → Printed (stepsFrom (o .table) (o .breakers) (take (o .size) message) (o .count) 1 (drop (o .at) input) B) p old new q → Printed (fromLine1 input) p old new q
+    unfolding printedBy
+    opened-steps e B g v = rw (line1-opens input ∙ ap printedBy (says-right e), ← g) v
 
 -- ---- the whole
 
@@ -118,16 +162,6 @@ front-put n xs ys l h =
 
 pub front-zeros : (n : ℕ) (xs ys : List ℕ) → ys ≡ zeros n → n ≤ length xs → ys ++ drop n xs ≡ put 0 (zeros n) xs
 front-zeros n xs ys e h = front-put n xs ys (ap length e ∙ zeros-length n) h ∙ ap (λ (v : List ℕ). put 0 v xs) e
-
--- no lent buffer is too short
-pub record Long (b : Lent) : Type 0 where
-  pub message-long : 64 ≤ length (b .message)
-  pub states-long : 35588 ≤ length (b .states)
-  pub kept-long : 14336 ≤ length (b .kept)
-  pub handed-long : 16619 ≤ length (b .handed)
-  pub out-long : 16619 ≤ length (b .out)
-  pub delivery-long : 64 ≤ length (b .delivery)
-  pub text-long : 154051 ≤ length (b .text)
 
 pub long-enough : (b : Lent) → isShort b ≡ false → Long b
 unfolding isShort
@@ -151,23 +185,27 @@ pub call-refused : (input : List ℕ) (b : Lent) → isShort b ≡ true → dril
 unfolding callOf pick
 call-refused input b e = rw e
 
+pub call-made : (input : List ℕ) (b b′ : Lent) (q : ℕ) → isShort b ≡ false → Left input q b b′ → drillOut (drilled 0 q) b′ ≡ callOf input b
+unfolding callOf pick
+call-made input b b′ q e w = rw (e, w .left-is, w .length-is)
+
 -- what is left, put together
-pub call-made : (input : List ℕ) (b : Lent) → isShort b ≡ false → (text′ : List ℕ) (q : ℕ) (message′ states′ kept′ handed′ out′ delivery′ : List ℕ)
+pub all-left : (input : List ℕ) (b : Lent) → Long b → (text′ : List ℕ) (q : ℕ) (message′ states′ kept′ handed′ out′ delivery′ : List ℕ)
     → Ended (drillOf input) (b .text) text′ q message′ states′ kept′ handed′ out′ delivery′
-    → drillOut (drilled 0 q) (lent (message′ ++ drop 64 (b .message)) (states′ ++ drop 35588 (b .states)) (kept′ ++ drop 14336 (b .kept))
-    (handed′ ++ drop 16619 (b .handed)) (out′ ++ drop 16619 (b .out)) (delivery′ ++ drop 64 (b .delivery)) text′) ≡ callOf input b
-unfolding callOf pick leftBy
-call-made input b e text′ q message′ states′ kept′ handed′ out′ delivery′ w =
-    let l = long-enough b e in
-    let z : q ≡ length (drillOf input) = omega (arith, w .printed .ends) in
-    rw (
-      e,
-      front-zeros 64 (b .message) message′ (w .message-zero) (l .message-long),
-      front-zeros 35588 (b .states) states′ (w .states-zero) (l .states-long),
-      front-zeros 14336 (b .kept) kept′ (w .kept-zero) (l .kept-long),
-      front-zeros 16619 (b .handed) handed′ (w .handed-zero) (l .handed-long),
-      front-zeros 16619 (b .out) out′ (w .out-zero) (l .out-long),
-      front-zeros 64 (b .delivery) delivery′ (w .delivery-zero) (l .delivery-long),
-      w .printed .text-is,
-      z,
-    )
+    → Left input q b (lent (message′ ++ drop 64 (b .message)) (states′ ++ drop 35588 (b .states)) (kept′ ++ drop 14336 (b .kept))
+    (handed′ ++ drop 16619 (b .handed)) (out′ ++ drop 16619 (b .out)) (delivery′ ++ drop 64 (b .delivery)) text′)
+unfolding leftBy
+all-left input b l text′ q message′ states′ kept′ handed′ out′ delivery′ w = record {
+  left-is =
+      rw (
+        front-zeros 64 (b .message) message′ (w .message-zero) (l .message-long),
+        front-zeros 35588 (b .states) states′ (w .states-zero) (l .states-long),
+        front-zeros 14336 (b .kept) kept′ (w .kept-zero) (l .kept-long),
+        front-zeros 16619 (b .handed) handed′ (w .handed-zero) (l .handed-long),
+        front-zeros 16619 (b .out) out′ (w .out-zero) (l .out-long),
+        front-zeros 64 (b .delivery) delivery′ (w .delivery-zero) (l .delivery-long),
+        w .printed .text-is,
+      );
+  length-is = omega (arith, w .printed .ends);
+  few = w .few;
+}

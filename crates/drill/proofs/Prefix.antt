@@ -18,10 +18,12 @@ use Rattle.words.specs.Numbers.{numberOf}
 use Rattle.words.proofs.Finding.{short}
 use Rattle.script.specs.declared.Breakers.{Breakers}
 use Rattle.script.specs.Lines.{fits, spaces, form, spacesFor, tableIn, rightTable, breakersIn, rightBreakers, messageIn, rightMessage, countIn, rightCount, rightStep}
-use Rattle.desk.specs.Boards.{Boards, fresh, turnOf}
-use Rattle.drill.specs.Text.{heading, lineText, bad}
-use Rattle.drill.proofs.Nexts.{right-line}
-use Rattle.drill.specs.Drill.{lineRight, onLine, stepsFrom, fromLine4, fromLine3, fromLine2, fromLine1, drillOf}
+use Rattle.slots.specs.Held.{Boards}
+use Rattle.desk.specs.Boards.{fresh, turnOf}
+use Rattle.printing.specs.Text.{heading, lineText, bad}
+use Rattle.opening.proofs.Nexts.{right-line}
+use Rattle.opening.specs.Opened.{lineRight}
+use Rattle.drill.specs.Drill.{onLine, stepsFrom, fromLine4, fromLine3, fromLine2, fromLine1, drillOf}
 
 -- ---- a line within the first m bytes
 

@@ -1,24 +1,30 @@
 -- What the functions of a drill ask of and tell one another, and the answer of the whole.
 use mathlib.Core.Path.{_≡_}
-use mathlib.Core.Bool.{true}
 use mathlib.Core.List.{List}
-use Prim.Native.Nat.{ℕ, _+_, _≤_}
-use lib.ListN.{length}
-use Rattle.octets.specs.Bytes.{put}
+use Prim.Native.Nat.{ℕ, _≤_}
+use lib.ListN.{length, take}
 use Rattle.boards.specs.declared.Table.{Table}
 use Rattle.desk.specs.Asked.{Small, Room}
-use Rattle.desk.specs.Boards.{Boards, zeros, turnOf}
-use Rattle.drill.specs.Text.{lineText}
-
--- v was printed from p on, up to q
-pub record Printed (v : List ℕ) (p : ℕ) (old new : List ℕ) (q : ℕ) : Type 0 where
-  pub text-is : new ≡ put p v old
-  pub ends : q ≡ p + length v
+use Rattle.slots.specs.Held.{Boards, zeros}
+use Rattle.desk.specs.Boards.{turnOf}
+use Rattle.opening.specs.declared.Opening.{Opening}
+use Rattle.opening.specs.Opened.{opening1}
+use Rattle.opening.specs.Said.{saidBy}
+use Rattle.printing.specs.Text.{lineText}
+use Rattle.printing.specs.Printed.{Printed}
+use Rattle.drill.specs.Drill.{drillOf}
+use Rattle.drill.specs.Call.{Lent, leftBy}
 
 -- step k, line l, was run and its line printed: B are the boards before it, B′ after it
 pub record Stepped (b : Table) (message : List ℕ) (k : ℕ) (l : List ℕ) (B B′ : Boards) (p : ℕ) (old new : List ℕ) (q : ℕ) : Type 0 where
   pub boards-are : B′ ≡ turnOf b message B l .boards
   pub line-is : Printed (lineText k l (turnOf b message B l .shown) (turnOf b message B l .message)) p old new q
+
+-- what the four lines before the steps say, with the message at the start of `message`
+pub record Opens (o : Opening) (message input : List ℕ) : Type 0 where
+  pub says : saidBy o (take (o .size) message) input ≡ opening1 input
+  pub size-few : o .size ≤ length message
+  pub at-in : o .at ≤ length input
 
 -- lent buffers, clean, for the boards of a drill
 pub record Clean (states kept handed out delivery : List ℕ) : Type 0 where
@@ -41,3 +47,19 @@ pub record Ended (v : List ℕ) (old new : List ℕ) (q : ℕ) (message states k
   pub handed-zero : handed ≡ zeros 16619
   pub out-zero : out ≡ zeros 16619
   pub delivery-zero : delivery ≡ zeros 64
+
+-- no lent buffer is too short
+pub record Long (b : Lent) : Type 0 where
+  pub message-long : 64 ≤ length (b .message)
+  pub states-long : 35588 ≤ length (b .states)
+  pub kept-long : 14336 ≤ length (b .kept)
+  pub handed-long : 16619 ≤ length (b .handed)
+  pub out-long : 16619 ≤ length (b .out)
+  pub delivery-long : 64 ≤ length (b .delivery)
+  pub text-long : 154051 ≤ length (b .text)
+
+-- the buffers after a drill whose text has q bytes
+pub record Left (input : List ℕ) (q : ℕ) (b b′ : Lent) : Type 0 where
+  pub left-is : b′ ≡ leftBy input b
+  pub length-is : q ≡ length (drillOf input)
+  pub few : q ≤ 154051

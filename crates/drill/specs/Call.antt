@@ -5,7 +5,7 @@ use mathlib.Core.Bool.{Bool, _||_}
 use lib.Dec.{ltb}
 use lib.ListN.{length}
 use Rattle.octets.specs.Bytes.{pick, put}
-use Rattle.desk.specs.Boards.{zeros}
+use Rattle.slots.specs.Held.{zeros}
 use Rattle.drill.specs.Drill.{drillOf}
 use Rattle.drill.specs.declared.Drilled.{Drilled}
 

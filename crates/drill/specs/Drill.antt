@@ -1,7 +1,7 @@
 -- Document 01, "The drill program", whole: what a drill prints, for every input. The quoted words are that section's.
 use Prim.Native.Nat.{ℕ, zero, suc, _+_}
 use mathlib.Core.List.{List, [], _++_}
-use mathlib.Core.Bool.{Bool, _&&_}
+use mathlib.Core.Bool.{Bool}
 use lib.Dec.{ltb}
 use lib.ListN.{length}
 use Rattle.octets.specs.Bytes.{pick}
@@ -9,12 +9,10 @@ use Rattle.boards.specs.declared.Table.{Table}
 use Rattle.words.specs.Words.{upto, past}
 use Rattle.script.specs.declared.Breakers.{Breakers}
 use Rattle.script.specs.Lines.{tableIn, rightTable, breakersIn, rightBreakers, messageIn, rightMessage, countIn, rightCount, rightStep}
-use Rattle.desk.specs.Boards.{Boards, fresh, turnOf}
-use Rattle.drill.specs.Text.{heading, lineText, bad}
-
--- whether the next line of what is left is there and right; lines end with LF, the last may lack it
-unfoldable pub lineRight : (List ℕ → Bool) → List ℕ → Bool
-lineRight right rest = ltb 0 (length rest) && right (upto 10 rest)
+use Rattle.slots.specs.Held.{Boards}
+use Rattle.desk.specs.Boards.{fresh, turnOf}
+use Rattle.opening.specs.Opened.{lineRight}
+use Rattle.printing.specs.Text.{heading, lineText, bad}
 
 -- "any other line, a missing line ..: `bad line` and the line's number after what is already printed, and it stops". next is given the
 -- line and what is left after it

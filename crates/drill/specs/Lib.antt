@@ -1,5 +1,4 @@
--- What the contracts of `drill` cite. To be read: Text, Drill and Call. Asked is what its functions ask of one another.
-pub mod Text
+-- What the contracts of `drill` cite. To be read: Drill and Call. Asked is what its functions ask of one another.
 pub mod Drill
 pub mod Call
 pub mod Asked

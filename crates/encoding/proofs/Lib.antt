@@ -1,4 +1,7 @@
 -- Laws of encoding by columns.
 pub mod Patches
-pub mod Single
+pub mod Sums
+pub mod Bitwise
+pub mod Columns
+pub mod Draws
 pub mod Sizes

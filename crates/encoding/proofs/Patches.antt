@@ -1,117 +1,136 @@
--- The same bytes of all fragments, written room by room and column by column.
+-- Runs of bytes, rooms and rows, written one after the other.
 -- Assumes nothing.
-use mathlib.Core.Path.{_≡_, refl, sym, ap, ap₂, _∙_, subst}
-use mathlib.Core.Logic.{_⊎_, inl, inr, ⊎-elim}
-use mathlib.Core.List.{List, _++_}
-use Prim.Native.Nat.{ℕ, suc, _+_, _-_, _*_, _<_, _≤_}
-use native.Mathlib.Nat as N
-use native.Mathlib.Omega.{arith}
-use lib.ListN.{length, getD, set, drop}
-use lib.Seq.{getD-set-same, getD-set-other}
 use borrow.Author.Count.{below-more}
-use Rattle.field.specs.Field.{add, mul}
-use Rattle.field.proofs.Laws as L
-use Rattle.octets.specs.Bytes.{placeEach}
+use mathlib.Core.Path.{_≡_, refl, sym, ap, _∙_, subst}
+use mathlib.Core.Logic.{_⊎_, inl, inr, ⊎-elim}
+use mathlib.Core.List.{List}
+use Prim.Native.Nat.{ℕ, suc, _+_, _-_, _*_, _<_, _≤_}
+use native.Mathlib.Omega.{arith}
+use native.Mathlib.Nat as N
+use lib.ListN.{length, getD, set}
+use lib.Seq.{ext-getD, getD-set-same, getD-set-other}
+use Rattle.octets.specs.Bytes.{part, put, placeEach}
+use Rattle.octets.proofs.Laws.{length-put, length-part, getD-put-in, getD-put-out}
+use Rattle.octets.proofs.Parts.{getD-part}
 use Rattle.octets.proofs.Places.{places-are}
-use Rattle.code.specs.Code.{value, row, fragmentByte, fragmentOf}
-use Rattle.code.specs.Block.{header, rows, block}
-use Rattle.code.proofs.Blocks.{enough, row-none, row-next, length-fragment, fragment-at}
 use Rattle.octets.proofs.Walk.{lt-or-le}
-use Rattle.encoding.specs.Patch.{Folded, Patch, turned}
+use Rattle.code.specs.Code.{fragmentByte, fragmentOf}
+use Rattle.code.specs.Block.{rows, block}
+use Rattle.code.proofs.Blocks.{enough, length-fragment, fragment-at}
+use Rattle.encoding.specs.Patch.{Filled, Patch}
 
-pub patch-start : (s lo hi : ℕ) (f : ℕ → ℕ → ℕ) (old : List ℕ) → Patch 0 s lo hi f old old
-patch-start s lo hi f old = record { each = λ i d h. absurd (omega arith); kept = λ i d h g e. refl; past = λ p h. refl }
+-- ---- a run of bytes
 
--- the next room: old area, then room i folded
-module _ (s c n go : ℕ) (column old area new : List ℕ) (i x : ℕ) (fits : c + n ≤ s) (ex : x ≡ suc i * go)
-    (w : Patch i s c (c + n) (turned go s column c old) old area) (f : Folded x column (i * s + c) n area new) where
-  -- a room before
-  earlier : (j d : ℕ) → j < i → d < s → getD new (j * s + d) 0 ≡ getD area (j * s + d) 0
-  earlier j d h g = f .before (j * s + d) (omega (arith, N.mul-le-mul-right s h))
+pub filled-none : (from : ℕ) (f : ℕ → ℕ) (old : List ℕ) → Filled from 0 f old old
+filled-none from f old = record { each = λ d h. absurd (omega arith); before = λ p h. refl; after = λ p h. refl }
 
-  same-each : (d : ℕ) → c ≤ d → d < c + n → getD new (i * s + d) 0 ≡ turned go s column c old i d
-  same-each d g h =
-      let e : i * s + c + (d - c) ≡ i * s + d = omega arith in
-      ap (λ (p : ℕ). getD new p 0) (sym e) ∙ f .each (d - c) (omega arith)
-      ∙ ap₂ (λ (y v : ℕ). add (getD column (d - c) 0) (mul y v)) ex (ap (λ (p : ℕ). getD area p 0) e ∙ w .past (i * s + d) (omega arith))
+-- one byte more is written
+pub filled-next : (from n v : ℕ) (f : ℕ → ℕ) (old area : List ℕ) → from + n < length area → Filled from n f old area → v ≡ f n
+    → Filled from (n + 1) f old (set area (from + n) v)
+filled-next from n v f old area room w e = record {
+  before = λ p h. getD-set-other area (from + n) p v 0 (λ z. omega arith) ∙ w .before p h;
+  each = below-more (λ (d : ℕ). getD (set area (from + n) v) (from + d) 0 ≡ f d) n
+      (λ d h. getD-set-other area (from + n) (from + d) v 0 (λ z. omega arith) ∙ w .each d h)
+      (getD-set-same area (from + n) v 0 room ∙ e);
+  after = λ p h. getD-set-other area (from + n) p v 0 (λ z. omega arith) ∙ w .after p (omega arith);
+}
 
-  same-kept : (d : ℕ) → d < s → (d < c) ⊎ (c + n ≤ d) → getD new (i * s + d) 0 ≡ getD old (i * s + d) 0
-  same-kept d g o = ⊎-elim (λ h. f .before (i * s + d) (omega arith)) (λ h. f .after (i * s + d) (omega arith)) o ∙ w .past (i * s + d) (omega arith)
+-- nothing is written where the bytes are already those meant
+pub filled-same : (from n : ℕ) (f : ℕ → ℕ) (old : List ℕ) → ((d : ℕ) → d < n → getD old (from + d) 0 ≡ f d) → Filled from n f old old
+filled-same from n f old e = record { each = e; before = λ p h. refl; after = λ p h. refl }
 
-  more : (i + 1) * s ≡ i * s + s
-  more = N.add-mul i 1 s ∙ ap (λ (r : ℕ). i * s + r) (N.one-mul s)
+-- the same bytes, said in another way
+pub filled-as : (from n : ℕ) (f g : ℕ → ℕ) (old new : List ℕ) → Filled from n f old new → ((d : ℕ) → d < n → f d ≡ g d) → Filled from n g old new
+filled-as from n f g old new w e = record { each = λ d h. w .each d h ∙ e d h; before = w .before; after = w .after }
 
-  upto : (j : ℕ) → j < i + 1 → (j ≡ i) ⊎ (j < i)
-  upto j h = N.eq-or-lt-of-le (omega arith)
-
-  pub patch-next : Patch (i + 1) s c (c + n) (turned go s column c old) old new
-  patch-next = record {
-    each = λ j d h g b. ⊎-elim (λ e. subst (λ (j : ℕ). getD new (j * s + d) 0 ≡ turned go s column c old j d) (sym e) (same-each d g b))
-        (λ l. earlier j d l (omega arith) ∙ w .each j d l g b) (upto j h);
-    kept = λ j d h g o. ⊎-elim (λ e. subst (λ (j : ℕ). getD new (j * s + d) 0 ≡ getD old (j * s + d) 0) (sym e) (same-kept d g o))
-        (λ l. earlier j d l g ∙ w .kept j d l g o) (upto j h);
-    past = λ p h. f .after p (omega (arith, more)) ∙ w .past p (omega (arith, more));
-  }
-
--- ---- the columns from m on are folded in
-
--- byte d of fragment i + 1, as far as the coefficients from m on make it
-abbrev pub part : ℕ → List ℕ → ℕ → ℕ → ℕ → ℕ
-part k msg m i d = value (drop m (row k (block k msg) d)) (suc i)
-
-pub record Partial (k : ℕ) (msg : List ℕ) (boards s c n : ℕ) (old : List ℕ) (m go : ℕ) (area : List ℕ) : Type 0 where
-  pub times : (i d : ℕ) → i < boards → c ≤ d → d < c + n → mul (suc i * go) (getD area (i * s + d) 0) ≡ mul (suc i) (part k msg m i d)
-  pub each : m < k → (i d : ℕ) → i < boards → c ≤ d → d < c + n → getD area (i * s + d) 0 ≡ part k msg m i d
-  pub kept : (i d : ℕ) → i < boards → d < s → (d < c) ⊎ (c + n ≤ d) → getD area (i * s + d) 0 ≡ getD old (i * s + d) 0
-  pub past : (p : ℕ) → boards * s ≤ p → getD area p 0 ≡ getD old p 0
-
-module _ (k : ℕ) (pos : 0 < k) (msg : List ℕ) (boards s c n : ℕ) (inside : c + n ≤ rows k (length msg)) (old : List ℕ) where
-  pub partial-start : Partial k msg boards s c n old k 0 old
-  partial-start = record {
-    times = λ i d h g b. ap (λ (y : ℕ). mul y (getD old (i * s + d) 0)) (N.mul-zero (suc i)) ∙ L.zero-mul-l (getD old (i * s + d) 0)
-        ∙ sym (ap (mul (suc i)) (row-none k pos msg d (omega arith) (suc i)) ∙ L.zero-mul-r (suc i));
-    each = λ h. absurd (omega arith);
-    kept = λ i d h g o. refl;
-    past = λ p h. refl;
-  }
-
-  pub partial-next : (m go : ℕ) (area new column : List ℕ) → 0 < m → m ≤ k → Partial k msg boards s c n old m go area
-      → ((i : ℕ) → i < n → getD column i 0 ≡ getD (header (length msg) ++ msg) ((c + i) * k + (m - 1)) 0)
-      → Patch boards s c (c + n) (turned go s column c area) area new → Partial k msg boards s c n old (m - 1) 1 new
-  partial-next m go area new column h l w e t = record {
-    times = λ i d a g b. ap₂ mul (N.mul-one (suc i)) (done i d a g b);
-    each = λ z i d a g b. done i d a g b;
-    kept = λ i d a g o. t .kept i d a g o ∙ w .kept i d a g o;
-    past = λ p a. t .past p a ∙ w .past p a;
-  }
-    where
-      done : (i d : ℕ) → i < boards → c ≤ d → d < c + n → getD new (i * s + d) 0 ≡ part k msg (m - 1) i d
-      done i d a g b =
-          let q : c + (d - c) ≡ d = omega arith in
-          t .each i d a g b
-          ∙ ap₂ add (e (d - c) (omega arith) ∙ ap (λ (r : ℕ). getD (header (length msg) ++ msg) (r * k + (m - 1)) 0) q) (w .times i d a g b)
-          ∙ sym (row-next k pos msg d (omega arith) (suc i) m h l)
-
-  pub partial-end : (go : ℕ) (area : List ℕ) → Partial k msg boards s c n old 0 go area → Patch boards s c (c + n) (λ i d. fragmentByte k (block k msg) (suc i) d) old area
-  unfolding fragmentByte
-  partial-end go area w = record { each = λ i d a g b. w .each pos i d a g b; kept = w .kept; past = w .past }
-
--- ---- all rows
-
--- first the rows before c, then n more
-pub patch-join : (boards s c n : ℕ) (f : ℕ → ℕ → ℕ) (old area new : List ℕ) → c + n ≤ s → Patch boards s 0 c f old area → Patch boards s c (c + n) f area new
-    → Patch boards s 0 (c + n) f old new
-patch-join boards s c n f old area new fits u v = record {
-  each = λ i d h g b. ⊎-elim (λ l. v .kept i d h (omega arith) (inl l) ∙ u .each i d h g l) (λ l. v .each i d h l b) (lt-or-le d c);
-  kept = λ i d h g o. v .kept i d h g (inr (over d o)) ∙ u .kept i d h g (inr (below' d o));
-  past = λ p h. v .past p h ∙ u .past p h;
+-- the first n bytes of a column put in
+pub filled-copy : (from n : ℕ) (column old : List ℕ) → n ≤ length column → from + n ≤ length old
+    → Filled from n (λ d. getD column d 0) old (put from (part 0 n column) old)
+filled-copy from n column old h g = record {
+  each = λ d b. getD-put-in (part 0 n column) old from d (omega (arith, size)) (omega (arith, size)) ∙ getD-part 0 n d column b
+      ∙ ap (λ (p : ℕ). getD column p 0) (N.zero-add d);
+  before = λ p b. getD-put-out (part 0 n column) old from p (inl b);
+  after = λ p b. getD-put-out (part 0 n column) old from p (inr (omega (arith, size)));
 }
   where
-    over : (d : ℕ) → (d < 0) ⊎ (c + n ≤ d) → c + n ≤ d
-    over d o = ⊎-elim (λ h. absurd (omega arith)) (λ h. h) o
+    size : length (part 0 n column) ≡ n
+    size = length-part 0 n column (omega arith)
 
-    below' : (d : ℕ) → (d < 0) ⊎ (c + n ≤ d) → c ≤ d
-    below' d o = ⊎-elim (λ h. absurd (omega arith)) (λ h. omega arith) o
+-- ---- room after room
+
+pub patch-start : (at s n : ℕ) (f : ℕ → ℕ → ℕ) (old : List ℕ) → Patch at 0 s n f old old
+patch-start at s n f old = record { each = λ i d h. absurd (omega arith); kept = λ p h. refl }
+
+module _ (at s n : ℕ) (f : ℕ → ℕ → ℕ) (old area new : List ℕ) (i : ℕ) (fits : n ≤ s) (w : Patch at i s n f old area) where
+  -- the next room is as it was
+  pub untouched : (d : ℕ) → getD area (at + i * s + d) 0 ≡ getD old (at + i * s + d) 0
+  untouched d = w .kept (at + i * s + d) (λ j e h b z. omega (arith, N.mul-le-mul-right s h))
+
+  pub patch-next : Filled (at + i * s) n (f i) area new → Patch at (i + 1) s n f old new
+  patch-next t = record {
+    each = λ j d h b. ⊎-elim (λ e. subst (λ (j : ℕ). getD new (at + j * s + d) 0 ≡ f j d) (sym e) (t .each d b))
+        (λ l. t .before (at + j * s + d) (omega (arith, N.mul-le-mul-right s l)) ∙ w .each j d l b) (upto j h);
+    kept = λ p h. outside p (λ d b. h i d (omega arith) b) ∙ w .kept p (λ j d l b. h j d (omega arith) b);
+  }
+    where
+      upto : (j : ℕ) → j < i + 1 → (j ≡ i) ⊎ (j < i)
+      upto j h = N.eq-or-lt-of-le (omega arith)
+
+      outside : (p : ℕ) → ((d : ℕ) → d < n → p ≡ at + i * s + d → ⊥) → getD new p 0 ≡ getD area p 0
+      outside p h =
+          ⊎-elim (λ l. t .before p l)
+          (λ l. ⊎-elim (λ b. absurd (h (p - (at + i * s)) (omega arith) (omega arith))) (λ b. t .after p b) (lt-or-le p (at + i * s + n)))
+          (lt-or-le p (at + i * s))
+
+-- ---- one writing after the other
+
+module _ (at count s n : ℕ) (f : ℕ → ℕ → ℕ) (old : List ℕ) where
+  -- nothing is written where the bytes are already those meant
+  pub patch-same : ((i d : ℕ) → i < count → d < n → getD old (at + i * s + d) 0 ≡ f i d) → Patch at count s n f old old
+  patch-same e = record { each = e; kept = λ p h. refl }
+
+  -- the same bytes, said in another way
+  pub patch-as : (g : ℕ → ℕ → ℕ) (new : List ℕ) → Patch at count s n f old new → ((i d : ℕ) → i < count → d < n → f i d ≡ g i d) → Patch at count s n g old new
+  patch-as g new w e = record { each = λ i d h b. w .each i d h b ∙ e i d h b; kept = w .kept }
+
+  -- the same places again
+  pub patch-then : (g : ℕ → ℕ → ℕ) (area new : List ℕ) → Patch at count s n f old area → Patch at count s n g area new → Patch at count s n g old new
+  patch-then g area new u v = record { each = v .each; kept = λ p h. v .kept p h ∙ u .kept p h }
+
+-- ---- rows after rows
+
+-- two places of rooms are the same only at the same distance
+apart : (s i j x y : ℕ) → x < s → y < s → i * s + x ≡ j * s + y → x ≡ y
+apart s i j x y h g e =
+    ⊎-elim (λ l. absurd (omega (arith, N.mul-le-mul-right s l)))
+    (λ l. ⊎-elim (λ m. absurd (omega (arith, N.mul-le-mul-right s m)))
+    (λ m. let q : i ≡ j = omega arith in omega (arith, ap (λ (r : ℕ). r * s) q)) (lt-or-le j i)) (lt-or-le i j)
+
+-- first the rows before `done`, then n from c on, some of them again
+pub patch-join : (at count s done c n : ℕ) (f : ℕ → ℕ → ℕ) (old area new : List ℕ) → c ≤ done → done ≤ c + n → c + n ≤ s
+    → Patch at count s done f old area → Patch (at + c) count s n (λ i d. f i (c + d)) area new → Patch at count s (c + n) f old new
+patch-join at count s done c n f old area new early late fits u v = record {
+  each = λ i d h b. ⊎-elim (λ l. v .kept (at + i * s + d) (λ j e m g z. elsewhere i j d e b l g z) ∙ u .each i d h (omega arith))
+      (λ l. again i d h l b) (lt-or-le d c);
+  kept = λ p h. v .kept p (λ j d l b z. h j (c + d) l (omega arith) (z ∙ place j d)) ∙ u .kept p (λ j d l b. h j d l (omega arith));
+}
+  where
+    place : (j d : ℕ) → at + c + j * s + d ≡ at + j * s + (c + d)
+    place j d = omega arith
+
+    elsewhere : (i j d e : ℕ) → d < c + n → d < c → e < n → at + i * s + d ≡ at + c + j * s + e → ⊥
+    elsewhere i j d e b l g z = let q : d ≡ c + e = apart s i j d (c + e) (omega arith) (omega arith) (omega arith) in omega arith
+
+    again : (i d : ℕ) → i < count → c ≤ d → d < c + n → getD new (at + i * s + d) 0 ≡ f i d
+    again i d h l b =
+        let e : c + (d - c) ≡ d = omega arith in
+        let q : at + i * s + d ≡ at + c + i * s + (d - c) = omega arith in
+        ap (λ (p : ℕ). getD new p 0) q ∙ v .each i (d - c) h (omega arith) ∙ ap (f i) e
+
+pub patch-none : (at count s : ℕ) (f : ℕ → ℕ → ℕ) (old : List ℕ) → Patch at count s 0 f old old
+patch-none at count s f old = record { each = λ i d h b. absurd (omega arith); kept = λ p h. refl }
+
+-- ---- what is left in the end
 
 -- a block has a row
 pub some-row : (k s : ℕ) (msg : List ℕ) → 0 < k → rows k (length msg) ≤ s → 0 < s
@@ -120,32 +139,51 @@ some-row k s msg pos h = ⊎-elim (λ g. g) (λ g. absurd (none (omega arith))) 
     none : rows k (length msg) ≡ 0 → ⊥
     none z = omega (arith, enough k pos msg, ap (λ (r : ℕ). r * k) z ∙ N.zero-mul k)
 
--- the area then is the old one with each fragment in its room
+-- all fragments: the area is the old one with each fragment in its room
 pub patch-places : (n k s : ℕ) (msg old new : List ℕ) → 0 < k → rows k (length msg) ≤ s → n * s ≤ length old → length new ≡ length old
-    → Patch n s 0 (rows k (length msg)) (λ i d. fragmentByte k (block k msg) (suc i) d) old new
+    → Patch 0 n s (rows k (length msg)) (λ i d. fragmentByte k (block k msg) (suc (0 + i)) d) old new
     → new ≡ placeEach n s (λ i. fragmentOf k (block k msg) (suc i)) old
 patch-places n k s msg old new pos fits room size t =
     places-are s (λ i. fragmentOf k (block k msg) (suc i)) old (λ i. N.le-trans (N.le-of-eq (len i)) fits) n new (some-row k s msg pos fits) room size
-    (λ i d h g. let l : d < rows k (length msg) = omega (arith, len i) in t .each i d h (omega arith) l ∙ sym (fragment-at k pos msg (suc i) d l))
-    (λ i d h g l. t .kept i d h l (inr (N.le-trans (N.le-of-eq (sym (len i))) g)))
-    (λ p h. t .past p h)
+    (λ i d h g. let l : d < rows k (length msg) = omega (arith, len i) in
+    ap (λ (p : ℕ). getD new p 0) (from-zero i d) ∙ t .each i d h l ∙ ap (λ (j : ℕ). fragmentByte k (block k msg) (suc j) d) (N.zero-add i)
+    ∙ sym (fragment-at k pos msg (suc i) d l))
+    (λ i d h g l. t .kept (i * s + d) (λ j e m b z. beyond i j d e (omega (arith, len i)) l b z))
+    (λ p h. t .kept p (λ j e m b z. omega (arith, N.mul-le-mul-right s m)))
   where
     len : (i : ℕ) → length (fragmentOf k (block k msg) (suc i)) ≡ rows k (length msg)
     len i = length-fragment k pos msg (suc i)
 
--- one byte more is folded
-pub folded-next : (x : ℕ) (src : List ℕ) (from c v : ℕ) (old area : List ℕ) → from + c < length area → Folded x src from c old area
-    → v ≡ add (getD src c 0) (mul x (getD area (from + c) 0)) → Folded x src from (c + 1) old (set area (from + c) v)
-folded-next x src from c v old area room w e = record {
-  before = λ p h. getD-set-other area (from + c) p v 0 (λ z. omega arith) ∙ w .before p h;
-  each = below-more (λ (d : ℕ). getD (set area (from + c) v) (from + d) 0 ≡ add (getD src d 0) (mul x (getD old (from + d) 0))) c
-      (λ d h. getD-set-other area (from + c) (from + d) v 0 (λ z. omega arith) ∙ w .each d h)
-      (getD-set-same area (from + c) v 0 room ∙ e ∙ ap (λ (u : ℕ). add (getD src c 0) (mul x u)) (w .after (from + c) (omega arith)));
-  after = λ p h. getD-set-other area (from + c) p v 0 (λ z. omega arith) ∙ w .after p (omega arith);
-}
+    from-zero : (i d : ℕ) → i * s + d ≡ 0 + i * s + d
+    from-zero i d = omega arith
 
-pub patch-none : (n s : ℕ) (f : ℕ → ℕ → ℕ) (old : List ℕ) → Patch n s 0 0 f old old
-patch-none n s f old = record { each = λ i d h g b. absurd (omega arith); kept = λ i d h g o. refl; past = λ p h. refl }
+    beyond : (i j d e : ℕ) → rows k (length msg) ≤ d → d < s → e < rows k (length msg) → i * s + d ≡ 0 + j * s + e → ⊥
+    beyond i j d e g l b z = let q : d ≡ e = apart s i j d e l (omega arith) (omega arith) in omega arith
 
-pub place-next : (c k m i : ℕ) → c * k + m + i * k ≡ (c + i) * k + m
-place-next c k m i = omega (arith, N.add-mul c i k)
+-- one fragment alone: the buffer is the old one with the fragment put in
+pub patch-put : (k at i s : ℕ) (msg old new : List ℕ) → 0 < k → at + rows k (length msg) ≤ length old → length new ≡ length old
+    → Patch at 1 s (rows k (length msg)) (λ j d. fragmentByte k (block k msg) (suc (i + j)) d) old new → new ≡ put at (fragmentOf k (block k msg) (suc i)) old
+patch-put k at i s msg old new pos room size t =
+    ext-getD 0 new (put at f old) (size ∙ sym (length-put at f old))
+    (λ p h. ⊎-elim (λ l. t .kept p (λ j e m b z. omega (arith, alone j m)) ∙ sym (getD-put-out f old at p (inl l)))
+    (λ l. ⊎-elim (λ b. inside p l b)
+    (λ b. t .kept p (λ j e m g z. omega (arith, alone j m)) ∙ sym (getD-put-out f old at p (inr (omega (arith, len)))))
+    (lt-or-le p (at + rows k (length msg))))
+    (lt-or-le p at))
+  where
+    f : List ℕ
+    f = fragmentOf k (block k msg) (suc i)
+
+    len : length f ≡ rows k (length msg)
+    len = length-fragment k pos msg (suc i)
+
+    alone : (j : ℕ) → j < 1 → j * s ≡ 0
+    alone j m = let z : j ≡ 0 = omega arith in ap (λ (r : ℕ). r * s) z ∙ N.zero-mul s
+
+    inside : (p : ℕ) → at ≤ p → p < at + rows k (length msg) → getD new p 0 ≡ getD (put at f old) p 0
+    inside p l b =
+        let q : p ≡ at + (p - at) = omega arith in
+        let o : p ≡ at + 0 * s + (p - at) = omega (arith, N.zero-mul s) in
+        ap (λ (x : ℕ). getD new x 0) o ∙ t .each 0 (p - at) (omega arith) (omega arith)
+        ∙ ap (λ (x : ℕ). fragmentByte k (block k msg) (suc x) (p - at)) (N.add-zero i) ∙ sym (fragment-at k pos msg (suc i) (p - at) (omega arith))
+        ∙ sym (getD-put-in f old at (p - at) (omega (arith, len)) (omega (arith, len))) ∙ ap (λ (x : ℕ). getD (put at f old) x 0) (sym q)

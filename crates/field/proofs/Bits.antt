@@ -22,14 +22,13 @@ product-times w x hw hx = ap₂ (times 8) (N.mod-eq-of-lt hw) (N.mod-eq-of-lt hx
 -- a^254
 abbrev pub power-254 : ℕ → ℕ
 power-254 a =
-    let a2 = mul a a in
-    let a4 = mul a2 a2 in
-    let a8 = mul a4 a4 in
-    let a16 = mul a8 a8 in
-    let a32 = mul a16 a16 in
-    let a64 = mul a32 a32 in
-    let a128 = mul a64 a64 in
-    mul (mul (mul a2 a4) a8) (mul (mul a16 a32) (mul a64 a128))
+    let a3 = mul (mul a a) a in
+    let a7 = mul (mul a3 a3) a in
+    let a15 = mul (mul a7 a7) a in
+    let a31 = mul (mul a15 a15) a in
+    let a63 = mul (mul a31 a31) a in
+    let a127 = mul (mul a63 a63) a in
+    mul a127 a127
 
 pub is-inverse : (a : ℕ) → 0 < a → a < 256 → mul a (power-254 a) ≡ 1
 unfolding mul times double add

@@ -588,12 +588,19 @@ fn turn(e: usize) -> usize
     if e < 255 { e } else { e - 255 }
 }
 
+// Twice x, with no table and no branch.
+pub fn twice(x: u8) -> u8
+    ensures { λ r. ⌜ r ≡ double x ⌝ }
+{
+    x % 128 * 2 ^ x / 128 * 29
+}
+
 // bit · x + 2 t, with no table and no branch.
 fn bit_step(bit: u8, x: u8, t: u8) -> u8
     requires { ⌜ bit < 2 ⌝ }
     ensures { λ r. ⌜ r ≡ add (bit * x) (double t) ⌝ }
 {
-    bit * x ^ (t % 128 * 2 ^ t / 128 * 29)
+    bit * x ^ twice(t)
 }
 
 // w · x by the bits of w, from the highest down: the product for long rows of bytes, where a loop over it becomes vector code.
@@ -617,19 +624,23 @@ pub fn product(w: u8, x: u8) -> u8
     bit_step(w % 2, x, t)
 }
 
-// The inverse as the 254th power: no table on the stack.
-pub fn inverse(a: u8) -> u8
-    requires { ⌜ 0 < a ⌝ }
-    ensures { λ r. ⌜ mul a r ≡ 1 ⌝ }
+// c + x y
+pub fn fold(c: u8, x: u8, y: u8) -> u8
+    ensures { λ r. ⌜ r ≡ add c (mul x y) ⌝ }
 {
-    let a2 = product(a, a);
-    let a4 = product(a2, a2);
-    let a8 = product(a4, a4);
-    let a16 = product(a8, a8);
-    let a32 = product(a16, a16);
-    let a64 = product(a32, a32);
-    let a128 = product(a64, a64);
-    let low = product(product(a2, a4), a8);
-    let high = product(product(a16, a32), product(a64, a128));
-    product(low, high)
+    c ^ product(x, y)
+}
+
+// The inverse as the 254th power: no table on the stack and no branch, so that a loop over it becomes vector code, and two values at a time, so that
+// these stay in registers. 0 has none, and gives 0.
+pub fn inverse(a: u8) -> u8
+    ensures { λ r. ⌜ (0 < a → mul a r ≡ 1) ⌝ }
+{
+    let a3 = product(product(a, a), a);
+    let a7 = product(product(a3, a3), a);
+    let a15 = product(product(a7, a7), a);
+    let a31 = product(product(a15, a15), a);
+    let a63 = product(product(a31, a31), a);
+    let a127 = product(product(a63, a63), a);
+    product(a127, a127)
 }

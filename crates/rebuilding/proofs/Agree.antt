@@ -15,7 +15,8 @@ use Rattle.code.specs.Code.{All, Byte, Apart, value, row, fragmentByte, fragmen
 use Rattle.code.proofs.Lists.{all-of, all-take, apart-take, map-at, at-map}
 use Rattle.rebuilding.specs.Rebuild.{Agrees}
 use Rattle.rebuilding.specs.Through.{marks}
-use Rattle.rebuilding.specs.Fits.{cell, Fit, Some, Boards}
+use Rattle.summing.specs.Sums.{cell, Boards}
+use Rattle.rebuilding.specs.Fits.{Fit, Some}
 use Rattle.octets.proofs.Parts.{getD-part}
 use Rattle.rebuilding.proofs.Marks.{between, apart-marks, length-marks, marks-have, marks-find}
 use Rattle.rebuilding.proofs.Rows.{solved, first-fit, first-take, row-ends, length-row, bytes-row, same-cells}

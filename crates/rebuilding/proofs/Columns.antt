@@ -15,11 +15,14 @@ use native.Mathlib.Numerals.{add-one}
 use Rattle.field.specs.Field.{add, mul}
 use Rattle.field.proofs.Laws as L
 use Rattle.code.specs.Code.{Byte, Apart, value, row}
-use Rattle.rebuilding.specs.Fits.{cell, Fit, Wrote}
+use Rattle.summing.specs.Sums.{cell, total, weighed}
+use Rattle.summing.proofs.Totals.{total-same, total-lt}
+use Rattle.summing.proofs.Weighing.{place-cell}
+use Rattle.rebuilding.specs.Fits.{Fit, Wrote}
 use Rattle.code.proofs.Lists.{all-of, map-at}
 use Rattle.rebuilding.proofs.Rows.{solved, length-row, row-ends, getD-row}
-use Rattle.rebuilding.proofs.Weights.{total-same, total-lt, takes}
-use Rattle.rebuilding.specs.Sums.{total, Master, Scales, Weights, Sums, weighed, Scattered, Column}
+use Rattle.rebuilding.proofs.Weights.{takes}
+use Rattle.rebuilding.specs.Sums.{Master, Scales, Weights, Sums, Scattered, Column}
 
 -- a place is in one row and one column
 pub same-row : (k a b q m : ℕ) → q < k → m < k → a * k + q ≡ b * k + m → a ≡ b
@@ -64,23 +67,6 @@ scatter-next src old out k m c i hm room w = record {
 
     under : (p : ℕ) → (c + (i + 1)) * k ≤ p → (c + i) * k ≤ p
     under p h = omega (arith, more)
-
--- one fragment more is added
-pub weighed-next : (area : List ℕ) (s : ℕ) (xs ws : List ℕ) (c j : ℕ)
-    → weighed area s xs ws c (j + 1) ≡ add (weighed area s xs ws c j) (mul (getD ws j 0) (cell area s c (getD xs j 0)))
-unfolding weighed total
-weighed-next area s xs ws c j = ap (total (λ q. mul (getD ws q 0) (cell area s c (getD xs q 0)))) (add-one j)
-
-pub weighed-none : (area : List ℕ) (s : ℕ) (xs ws : List ℕ) (c : ℕ) → weighed area s xs ws c 0 ≡ 0
-unfolding weighed total
-weighed-none area s xs ws c = refl
-
--- n bytes from byte c on, in room x
-pub room : (x s c n size : ℕ) → 0 < x → c + n ≤ s → x * s ≤ size → (x - 1) * s + c + n ≤ size
-room x s c n size h g l = go (x - 1) (omega arith)
-  where
-    go : (y : ℕ) → suc y ≡ x → y * s + c + n ≤ size
-    go y e = omega (arith, ap (λ (z : ℕ). z * s) e)
 
 -- n rows more are written
 pub column-next : (area : List ℕ) (s : ℕ) (xs ws : List ℕ) (k m c n : ℕ) (sum old out new : List ℕ) → Column area s xs ws k m c old out
@@ -173,10 +159,6 @@ module _ (area : List ℕ) (s : ℕ) (xs m ds : List ℕ) (count : ℕ) (old : L
     }
 
 -- ---- other fragments
-
-pub place-cell : (area : List ℕ) (s c i x : ℕ) → getD area ((x - 1) * s + c + i) 0 ≡ cell area s (c + i) x
-unfolding cell
-place-cell area s c i x = ap (λ (p : ℕ). getD area p 0) (N.add-assoc ((x - 1) * s) c i)
 
 module _ (area : List ℕ) (s : ℕ) (xs ws : List ℕ) (z c n : ℕ) (sum : List ℕ) (from : ℕ) (at : from ≡ (z - 1) * s + c)
     (w : (i : ℕ) → i < n → getD sum i 0 ≡ weighed area s xs ws (c + i) (length xs)) where

@@ -19,7 +19,8 @@ use Rattle.code.proofs.Editions.{bytes, values-eval}
 use Rattle.code.proofs.Lists.{all-of, distinct-of, getD-map, map-at}
 use Rattle.rebuilding.specs.Rebuild.{Agrees}
 use Rattle.rebuilding.specs.Through.{marks, attach, slopes, through, fragmentIn, blockThrough}
-use Rattle.rebuilding.specs.Fits.{cell, Fit}
+use Rattle.summing.specs.Sums.{cell}
+use Rattle.rebuilding.specs.Fits.{Fit}
 use Rattle.octets.proofs.Parts.{getD-part}
 use Rattle.code.proofs.Lists.{all-append}
 use Rattle.rebuilding.proofs.Marks.{between, apart-marks, length-marks, marks-have}

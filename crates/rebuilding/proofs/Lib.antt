@@ -4,6 +4,7 @@ pub mod Rows
 pub mod Marks
 pub mod Weights
 pub mod Columns
+pub mod Same
 pub mod Others
 pub mod Agree
 pub mod Interpolation

@@ -10,14 +10,17 @@ use borrow.Author.Count.{below-more}
 use Rattle.field.specs.Field.{mul}
 use Rattle.field.proofs.Laws as L
 use Rattle.code.specs.Code.{All, Byte, Apart, value}
-use Rattle.rebuilding.specs.Fits.{cell, First, Some}
+use Rattle.summing.specs.Sums.{cell}
+use Rattle.rebuilding.specs.Fits.{First, Some}
 use Rattle.octets.specs.Bytes.{tab}
 use Rattle.octets.proofs.Tables.{length-tab, getD-tab}
 use Rattle.octets.proofs.Walk.{lt-or-le}
 use Rattle.code.proofs.Lists.{all-of, map-at, at-map}
 use Rattle.rebuilding.proofs.Rows.{solved, some-same}
-use Rattle.rebuilding.specs.Sums.{total, quot, Master, Scales, Values, Sums, weighed}
-use Rattle.rebuilding.proofs.Weights.{total-same, takes, values}
+use Rattle.summing.specs.Sums.{total, weighed}
+use Rattle.rebuilding.specs.Sums.{quot, Master, Scales, Values, Sums}
+use Rattle.summing.proofs.Totals.{total-same}
+use Rattle.rebuilding.proofs.Weights.{takes, values}
 use Rattle.rebuilding.proofs.Columns.{coefficient, coefficient-lt}
 
 -- row c, by weights

@@ -11,7 +11,8 @@ use Rattle.octets.specs.Bytes.{part}
 use Rattle.code.specs.Code.{All, Byte, Apart, value, row}
 use Rattle.code.proofs.Editions.{first, determined}
 use Rattle.code.proofs.Lists.{distinct-of, map-at, at-map, all-take, all-drop}
-use Rattle.rebuilding.specs.Fits.{cell, Fit, Solved, Some, First, Boards}
+use Rattle.summing.specs.Sums.{cell, Boards}
+use Rattle.rebuilding.specs.Fits.{Fit, Solved, Some, First}
 
 -- a row that gives the fragments is the only one: any k fragments determine the row
 pub solved : (area : List ℕ) (s c : ℕ) (xs r : List ℕ) → Apart xs → length r ≡ length xs → All Byte xs → All Byte r → Fit area s c xs r → Solved area s c xs r

@@ -17,45 +17,12 @@ use Rattle.rebuilding.proofs.Newton.{newton, Expanded}
 use Rattle.code.proofs.Polynomials.{eval, factor, roots, zero≢suc, suc-injective}
 use Rattle.code.proofs.Polynomials as P
 use Rattle.code.proofs.Editions.{bytes, value-eval}
+use Rattle.code.proofs.Horner.{value-none, value-next}
 use Rattle.octets.proofs.Walk.{lt-or-le}
 use Rattle.code.proofs.Lists.{all-of, distinct-of, all-drop}
-use Rattle.rebuilding.specs.Sums.{total, quot, Master, Scales}
-
--- ---- sums
-
-pub total-same : (f g : ℕ → ℕ) (n : ℕ) → ((j : ℕ) → j < n → f j ≡ g j) → total f n ≡ total g n
-unfolding total
-total-same f g zero h = refl
-total-same f g (suc n) h = ap₂ add (total-same f g n (λ j b. h j (omega arith))) (h n (omega arith))
-
-total-zero : (f : ℕ → ℕ) (n : ℕ) → ((j : ℕ) → j < n → f j ≡ 0) → total f n ≡ 0
-unfolding total
-total-zero f zero h = refl
-total-zero f (suc n) h = ap₂ add (total-zero f n (λ j b. h j (omega arith))) (h n (omega arith)) ∙ L.add-self 0
-
-total-add : (f g : ℕ → ℕ) (n : ℕ) → add (total f n) (total g n) ≡ total (λ j. add (f j) (g j)) n
-unfolding total
-total-add f g zero = L.add-self 0
-total-add f g (suc n) = L.add-swap (total f n) (f n) (total g n) (g n) ∙ ap (λ (t : ℕ). add t (add (f n) (g n))) (total-add f g n)
-
-total-mul : (z : ℕ) (f : ℕ → ℕ) (n : ℕ) → mul z (total f n) ≡ total (λ j. mul z (f j)) n
-unfolding total
-total-mul z f zero = L.zero-mul-r z
-total-mul z f (suc n) = L.mul-add z (total f n) (f n) ∙ ap (λ (t : ℕ). add t (mul z (f n))) (total-mul z f n)
-
-pub total-lt : (f : ℕ → ℕ) (n : ℕ) → ((j : ℕ) → f j < 256) → total f n < 256
-unfolding total
-total-lt f zero h = omega arith
-total-lt f (suc n) h = L.add-lt (total f n) (f n) (total-lt f n h) (h n)
-
--- all terms but one are zero
-total-one : (f : ℕ → ℕ) (n i : ℕ) → i < n → ((j : ℕ) → j < n → j ≢ i → f j ≡ 0) → total f n ≡ f i
-unfolding total
-total-one f zero i h z = absurd (omega arith)
-total-one f (suc n) i h z =
-    ⊎-elim (λ e. ap₂ add (total-zero f n (λ j b. z j (omega arith) (λ q. omega arith))) (ap f (sym e)) ∙ L.zero-add (f i))
-    (λ l. ap₂ add (total-one f n i l (λ j b. z j (omega arith))) (z n (omega arith) (λ q. omega arith)) ∙ L.add-zero (f i))
-    (N.eq-or-lt-of-le (N.le-of-suc-le-suc h))
+use Rattle.summing.specs.Sums.{total}
+use Rattle.summing.proofs.Totals.{total-same, total-zero, total-add, total-mul, total-one}
+use Rattle.rebuilding.specs.Sums.{quot, differences, Master, Scales, Weight}
 
 -- ---- the quotient
 
@@ -64,11 +31,11 @@ unfolding quot P.quot
 quot-eval r [] = refl
 quot-eval r (d ∷ ds) = ap₂ _∷_ (value-eval (d ∷ ds) r) (quot-eval r ds)
 
-pub value-over : (x z : ℕ) (m : List ℕ) → value (quot x (drop (length m) m)) z ≡ 0
+value-over : (x z : ℕ) (m : List ℕ) → value (quot x (drop (length m) m)) z ≡ 0
 unfolding quot value
 value-over x z m = ap (λ (l : List ℕ). value (quot x l) z) (drop-length m)
 
-pub quot-next : (x z : ℕ) (m : List ℕ) (j : ℕ) → 0 < j → j ≤ length m
+quot-next : (x z : ℕ) (m : List ℕ) (j : ℕ) → 0 < j → j ≤ length m
     → value (quot x (drop (j - 1) m)) z ≡ add (value (drop (j - 1) m) x) (mul z (value (quot x (drop j m)) z))
 unfolding quot value
 quot-next x z m j h l =
@@ -79,6 +46,26 @@ quot-next x z m j h l =
 
     e : drop (j - 1) m ≡ getD m (j - 1) 0 ∷ drop j m
     e = drop-cons m (j - 1) 0 (omega arith) ∙ ap (λ (i : ℕ). getD m (j - 1) 0 ∷ drop i m) back
+
+-- low has the values at the points of the coefficients from i on, ds those of their quotients
+abbrev pub Sloped : List ℕ → List ℕ → ℕ → List ℕ → List ℕ → Type 0
+Sloped xs m i low ds =
+    (j : ℕ) → j < length xs → (getD low j 0 ≡ value (drop i m) (getD xs j 0)) × (getD ds j 0 ≡ value (quot (getD xs j 0) (drop i m)) (getD xs j 0))
+
+pub sloped-start : (xs m low ds : List ℕ) → length m ≡ suc (length xs) → ((j : ℕ) → j < length xs → getD low j 0 ≡ 0)
+    → ((j : ℕ) → j < length xs → getD ds j 0 ≡ 0) → Sloped xs m (suc (length xs)) low ds
+sloped-start xs m low ds l zl zd j h =
+    let x = getD xs j 0 in
+    (zl j h ∙ sym (value-none m x) ∙ ap (λ (i : ℕ). value (drop i m) x) l, zd j h ∙ sym (value-over x x m) ∙ ap (λ (i : ℕ). value (quot x (drop i m)) x) l)
+
+pub sloped-next : (xs m : List ℕ) (i : ℕ) (low ds low′ ds′ : List ℕ) → length m ≡ suc (length xs) → i ≤ length xs → Sloped xs m (suc i) low ds
+    → ((j : ℕ) → j < length xs → (getD low′ j 0 ≡ add (getD m i 0) (mul (getD xs j 0) (getD low j 0)))
+    × (getD ds′ j 0 ≡ add (getD low′ j 0) (mul (getD xs j 0) (getD ds j 0)))) → Sloped xs m i low′ ds′
+sloped-next xs m i low ds low′ ds′ l h S d j b =
+    let x = getD xs j 0 in
+    let back : suc i - 1 ≡ i = omega arith in
+    let e = d j b .0 ∙ ap (λ (v : ℕ). add (getD m i 0) (mul x v)) (S j b .0) ∙ sym (rw back at (value-next m x (suc i) (omega arith) (omega arith))) in
+    (e, d j b .1 ∙ ap₂ (λ (u v : ℕ). add u (mul x v)) e (S j b .1) ∙ sym (rw back at (quot-next x x m (suc i) (omega arith) (omega arith))))
 
 getD-quot : (x : ℕ) (cs : List ℕ) (i : ℕ) → i < length cs → getD (quot x cs) i 0 ≡ value (drop i cs) x
 unfolding quot
@@ -128,6 +115,33 @@ slope-off m h small r z i root one =
     let e : value m z ≡ mul (add z r) q = sym (L.add-zero (value m z)) ∙ ap (add (value m z)) (sym root) ∙ split m h z r in
     ap (λ (v : ℕ). mul v i) e ∙ L.mul-assoc (add z r) q i
     ∙ L.divided q (add z r) i (value-lt (quot r (drop 1 m)) z (quot-bytes m r small)) one
+
+same-or-not : (a b : ℕ) → (a ≡ b) ⊎ (a ≢ b)
+same-or-not a b = ⊎-elim (λ l. inr (λ e. omega arith)) (λ l. ⊎-elim (λ e. inl (sym e)) (λ h. inr (λ e. omega arith)) (N.eq-or-lt-of-le l)) (lt-or-le a b)
+
+-- the weight of a point, from the products p of the others and o for the point itself
+pub weighed-point : (x z d at i p o : ℕ) → p ≡ mul d (mul at i) → (x ≡ z → o ≡ 1) → ((x ≡ z → ⊥) → o ≡ 0) → Weight x z d at i (add p o)
+weighed-point x z d at i p o e one none = record {
+  away = λ n. ap₂ add e (none n) ∙ L.add-zero (mul d (mul at i));
+  here = λ s t. ap₂ add (e ∙ ap (λ (v : ℕ). mul d (mul v i)) t ∙ ap (mul d) (L.zero-mul-l i) ∙ L.zero-mul-r d) (one s) ∙ L.zero-add 1;
+}
+
+-- the weight of point j at z
+pub weight-value : (xs m ds : List ℕ) (z j i w : ℕ) → Master xs m → Scales xs m ds → j < length xs → (0 < add z (getD xs j 0) → mul (add z (getD xs j 0)) i ≡ 1)
+    → Weight (getD xs j 0) z (getD ds j 0) (differences xs z) i w → w ≡ mul (getD ds j 0) (value (quot (getD xs j 0) (drop 1 m)) z)
+weight-value xs m ds z j i w M S h inv W =
+    ⊎-elim
+    (λ e. W .here e (sym (M .all z) ∙ ap (value m) (sym e) ∙ M .root j h) ∙ sym (L.mul-comm d (value (quot x (drop 1 m)) z)
+    ∙ ap (λ (z : ℕ). mul (value (quot x (drop 1 m)) z) d) (sym e) ∙ S j h))
+    (λ n. W .away n ∙ ap (mul d) (ap (λ (v : ℕ). mul v i) (sym (M .all z))
+    ∙ slope-off m (omega (arith, M .size)) (M .small) x z i (M .root j h) (inv (L.apart z x (λ e. n (sym e))))))
+    (same-or-not x z)
+  where
+    x : ℕ
+    x = getD xs j 0
+
+    d : ℕ
+    d = getD ds j 0
 
 -- ---- the product of all X - x, and its quotients
 
@@ -194,9 +208,6 @@ module _ (xs m : List ℕ) (M : Master xs m) (apart : Apart xs) (small : (i : �
       one≢zero : _≡_ {A = ℕ} 1 0 → ⊥
       one≢zero e = omega arith
 
-      same-or-not : (a b : ℕ) → (a ≡ b) ⊎ (a ≢ b)
-      same-or-not a b = ⊎-elim (λ l. inr (λ e. omega arith)) (λ l. ⊎-elim (λ e. inl (sym e)) (λ h. inr (λ e. omega arith)) (N.eq-or-lt-of-le l)) (lt-or-le a b)
-
   -- ---- the row whose coefficients are the weighed sums takes the values
 
   module _ (ds : List ℕ) (S : Scales xs m ds) (y : ℕ → ℕ) (small-y : (j : ℕ) → y j < 256) (r : List ℕ) (size : length r ≡ length xs)
@@ -231,19 +242,34 @@ module _ (xs m : List ℕ) (M : Master xs m) (apart : Apart xs) (small : (i : �
 
 -- ---- the product of all X - x
 
--- the Newton form with the coefficients 0, .. 0, 1 vanishes at its points
-pub newton-zeros : (ps r : List ℕ) (i : ℕ) → length r ≡ suc (length ps) → ((j : ℕ) → j < length ps → getD r j 0 ≡ 0) → i < length ps
-    → newton (ps ++ 0 ∷ []) r (getD ps i 0) ≡ 0
-unfolding newton
-newton-zeros [] r i l h g = absurd (omega arith)
-newton-zeros (p ∷ ps) [] i l h g = absurd (zero≢suc l)
-newton-zeros (p ∷ ps) (a ∷ r) zero l h g =
-    ap₂ (λ (a d : ℕ). add a (mul d (newton (ps ++ 0 ∷ []) r p))) (h 0 g) (L.add-self p)
-    ∙ ap (add 0) (L.zero-mul-l (newton (ps ++ 0 ∷ []) r p)) ∙ L.add-self 0
-newton-zeros (p ∷ ps) (a ∷ r) (suc i) l h g =
-    let z = getD ps i 0 in
-    ap₂ (λ (a n : ℕ). add a (mul (add z p) n)) (h 0 (omega arith)) (newton-zeros ps r i (suc-injective l) (λ j b. h (suc j) (omega arith)) (omega arith))
-    ∙ ap (add 0) (L.zero-mul-r (add z p)) ∙ L.add-self 0
+-- over the points from j on
+pub differences-none : (ps : List ℕ) (z : ℕ) → differences (drop (length ps) ps) z ≡ 1
+unfolding differences
+differences-none ps z = ap (λ (l : List ℕ). differences l z) (drop-length ps)
+
+pub differences-next : (ps : List ℕ) (z j : ℕ) → 0 < j → j ≤ length ps → differences (drop (j - 1) ps) z ≡ mul (add z (getD ps (j - 1) 0)) (differences (drop j ps) z)
+unfolding differences
+differences-next ps z j h l =
+    let back : suc (j - 1) ≡ j = omega arith in
+    ap (λ (l : List ℕ). differences l z) (drop-cons ps (j - 1) 0 (omega arith) ∙ ap (λ (i : ℕ). getD ps (j - 1) 0 ∷ drop i ps) back)
+
+-- it vanishes at its points
+pub differences-root : (ps : List ℕ) (i : ℕ) → i < length ps → differences ps (getD ps i 0) ≡ 0
+unfolding differences
+differences-root [] i h = absurd (omega arith)
+differences-root (p ∷ ps) zero h = ap (λ (d : ℕ). mul d (differences ps p)) (L.add-self p) ∙ L.zero-mul-l (differences ps p)
+differences-root (p ∷ ps) (suc i) h = ap (mul (add (getD ps i 0) p)) (differences-root ps i (omega arith)) ∙ L.zero-mul-r (add (getD ps i 0) p)
+
+-- the Newton form with the coefficients 0, .. 0, 1
+pub newton-differences : (ps r : List ℕ) (z : ℕ) → length r ≡ suc (length ps) → ((j : ℕ) → j < length ps → getD r j 0 ≡ 0) → getD r (length ps) 0 ≡ 1
+    → newton (ps ++ 0 ∷ []) r z ≡ differences ps z
+unfolding newton differences
+newton-differences [] [] z l h t = absurd (zero≢suc l)
+newton-differences [] (a ∷ r) z l h t = ap (λ (a : ℕ). add a (mul (add z 0) 0)) t ∙ ap (add 1) (L.zero-mul-r (add z 0)) ∙ L.add-zero 1
+newton-differences (p ∷ ps) [] z l h t = absurd (zero≢suc l)
+newton-differences (p ∷ ps) (a ∷ r) z l h t =
+    ap₂ (λ (a n : ℕ). add a (mul (add z p) n)) (h 0 (omega arith)) (newton-differences ps r z (suc-injective l) (λ j b. h (suc j) (omega arith)) t)
+    ∙ L.zero-add (mul (add z p) (differences ps z))
 
 module _ (ps old : List ℕ) (size : length old ≡ suc (length ps)) where
   pub longer : length (ps ++ 0 ∷ []) ≡ length old

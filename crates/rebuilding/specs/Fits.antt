@@ -4,20 +4,13 @@ use mathlib.Core.Path.{_≡_}
 use mathlib.Core.List.{List, map}
 use Prim.Native.Nat.{ℕ, _+_, _-_, _*_, _<_, _≤_}
 use lib.ListN.{length, getD}
+use Rattle.summing.specs.Sums.{cell}
 use Rattle.field.specs.Field.{add, mul}
 use Rattle.code.specs.Code.{All, Byte, value, row}
-
--- byte c of fragment x, in an area with room s for each fragment
-unfoldable pub cell : List ℕ → ℕ → ℕ → ℕ → ℕ
-cell area s c x = getD area ((x - 1) * s + c) 0
 
 -- the row r gives byte c of each of the fragments xs
 abbrev pub Fit : List ℕ → ℕ → ℕ → List ℕ → List ℕ → Type 0
 Fit area s c xs r = map (value r) xs ≡ map (cell area s c) xs
-
--- board numbers whose fragments lie in an area of the size
-abbrev pub Boards : ℕ → ℕ → List ℕ → Type 0
-Boards size s xs = (i : ℕ) → i < length xs → (0 < getD xs i 0) × (getD xs i 0 ≤ 64) × (getD xs i 0 * s ≤ size)
 
 -- r is the one row of bytes that gives byte c of the fragments xs
 pub record Solved (area : List ℕ) (s c : ℕ) (xs r : List ℕ) : Type 0 where

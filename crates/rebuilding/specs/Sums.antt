@@ -8,21 +8,24 @@ use Prim.Native.Nat.{ℕ, zero, suc, _+_, _*_, _<_, _≤_}
 use lib.ListN.{length, getD, drop}
 use Rattle.field.specs.Field.{add, mul}
 use Rattle.code.specs.Code.{value}
-use Rattle.rebuilding.specs.Fits.{cell, Some, Wrote}
-
--- f 0 + f 1 + .. : n terms
-unfoldable pub total : (ℕ → ℕ) → ℕ → ℕ
-total f zero = 0
-total f (suc n) = add (total f n) (f n)
+use Rattle.summing.specs.Sums.{cell, weighed}
+use Rattle.rebuilding.specs.Fits.{Some, Wrote}
 
 -- the quotient of c + X cs by X - r, whatever c: its lowest coefficient is cs at r
 unfoldable pub quot : ℕ → List ℕ → List ℕ
 quot r [] = []
 quot r (d ∷ ds) = value (d ∷ ds) r ∷ quot r ds
 
+-- the product of all z - x, x a point
+unfoldable pub differences : List ℕ → ℕ → ℕ
+differences [] z = 1
+differences (x ∷ xs) z = mul (add z x) (differences xs z)
+
 -- m has the coefficients of the product of all X - x, x a point
 pub record Master (xs m : List ℕ) : Type 0 where
   pub size : length m ≡ suc (length xs)
+  pub small : (i : ℕ) → getD m i 0 < 256
+  pub all : (z : ℕ) → value m z ≡ differences xs z
   pub root : (i : ℕ) → i < length xs → value m (getD xs i 0) ≡ 0
   pub top : getD m (length xs) 0 ≡ 1
 
@@ -34,24 +37,21 @@ Scales xs m ds = (j : ℕ) → j < length xs → mul (value (quot (getD xs j 0) 
 abbrev pub Weights : List ℕ → List ℕ → List ℕ → ℕ → List ℕ → Type 0
 Weights xs m ds i ws = (j : ℕ) → j < length xs → getD ws j 0 ≡ mul (getD ds j 0) (value (drop i m) (getD xs j 0))
 
--- byte c of the first n of the fragments xs, each times its weight, added up
-unfoldable pub weighed : List ℕ → ℕ → List ℕ → List ℕ → ℕ → ℕ → ℕ
-weighed area s xs ws c n = total (λ j. mul (getD ws j 0) (cell area s c (getD xs j 0))) n
-
 -- ws has the weights with which bytes at the points add up to the value at z
 abbrev pub Values : List ℕ → List ℕ → List ℕ → ℕ → List ℕ → Type 0
 Values xs m ds z ws = (j : ℕ) → j < length xs → getD ws j 0 ≡ mul (getD ds j 0) (value (quot (getD xs j 0) (drop 1 m)) z)
+
+-- w is the weight of point x at z: its scale d times the product `at` of all differences over its own, by that one's inverse i; 1 at the point
+-- itself, where the product is 0
+pub record Weight (x z d at i w : ℕ) : Type 0 where
+  pub away : (x ≡ z → ⊥) → w ≡ mul d (mul at i)
+  pub here : x ≡ z → at ≡ 0 → w ≡ 1
 
 -- byte c of fragment z is the sum of those of the fragments xs by their weights
 abbrev pub Sums : List ℕ → ℕ → List ℕ → List ℕ → ℕ → ℕ → Type 0
 Sums area s xs ws z c = weighed area s xs ws c (length xs) ≡ cell area s c z
 
 -- ---- the steps
-
--- n bytes of old have w times the bytes of src from a place on added, and the others are as they were
-pub record Added (w : ℕ) (src : List ℕ) (from n : ℕ) (old new : List ℕ) : Type 0 where
-  pub each : (c : ℕ) → c < n → getD new c 0 ≡ add (getD old c 0) (mul w (getD src (from + c) 0))
-  pub rest : (c : ℕ) → n ≤ c → getD new c 0 ≡ getD old c 0
 
 -- column m of rows of k bytes has the bytes of src, n of them, from row c on, and nothing else is written
 pub record Scattered (src : List ℕ) (k m c n : ℕ) (old new : List ℕ) : Type 0 where

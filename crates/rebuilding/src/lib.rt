@@ -1,38 +1,23 @@
 // Rebuilding: the block whose fragments are those marked, by weights, whole columns at a time.
+use field::fold;
 use field::inverse;
 use field::product;
 use octets::clear_at;
-use octets::same_at;
+use summing::combine;
+use summing::place;
 ghost use mathlib.Core.Path.{_≡_};
 ghost use mathlib.Core.Bool.{true, false};
+ghost use mathlib.Core.List.{List};
 ghost use Prim.Native.Nat.{ℕ, suc, _+_, _-_, _*_, _/_, _^_, _<_, _≤_};
 ghost use lib.Count.{ones};
 ghost use lib.ListN.{length, getD, drop, take};
-ghost use Rattle.field.specs.Field.{add, mul};
+ghost use Rattle.field.specs.Field.{add, double, mul};
 ghost use Rattle.code.specs.Code.{value, Apart};
 ghost use Rattle.rebuilding.specs.Rebuild.{Rebuilt};
 ghost use Rattle.rebuilding.specs.Through.{marks};
-ghost use Rattle.rebuilding.specs.Fits.{Boards, First, Some, Wrote, Attached};
-ghost use Rattle.rebuilding.specs.Sums.{quot, Master, Scales, Weights, Values, Sums, Remade, weighed, Added, Scattered, Column};
-
-// c + x y
-fn fold(c: u8, x: u8, y: u8) -> u8
-    ensures { λ r. ⌜ r ≡ add c (mul x y) ⌝ }
-{
-    c ^ product(x, y)
-}
-
-// n bytes of sum have w times those of src from a place on added.
-fn accumulate(sum: &mut [u8], src: &[u8], from: usize, n: usize, w: u8)
-    requires { ⌜ (n ≤ length (now sum)) × (from + n ≤ length (now src)) ⌝ }
-    ensures { λ r. ⌜ Added w (now (src .entry)) from n (now (sum .entry)) (now (sum .exit)) ⌝ }
-{
-    let mut c = 0;
-    while c < n {
-        sum[c] = fold(sum[c], w, src[from + c]);
-        c += 1;
-    }
-}
+ghost use Rattle.rebuilding.specs.Fits.{First, Some, Wrote, Attached};
+ghost use Rattle.summing.specs.Sums.{Boards, weighed};
+ghost use Rattle.rebuilding.specs.Sums.{quot, differences, Master, Scales, Weight, Values, Sums, Remade, Scattered, Column};
 
 // From y, q0, q1, .. at j on, the coefficients of y + (X - x) q.
 fn attach(x: u8, row: &mut [u8], j: usize)
@@ -59,33 +44,55 @@ pub fn master(points: &[u8], row: &mut [u8])
     }
 }
 
-// The value at z of the quotient by X - x.
-fn slope_at(m: &[u8], x: u8, z: u8) -> u8
-    requires { ⌜ 0 < length (now m) ⌝ }
-    ensures { λ r. ⌜ r ≡ value (quot x (drop 1 (now (m .entry)))) z ⌝ }
-{
-    let mut low: u8 = 0;
-    let mut sum: u8 = 0;
-    let mut j = m.len();
-    while 1 < j {
-        j -= 1;
-        low = fold(m[j], x, low);
-        sum = fold(low, z, sum);
-    }
-    sum
-}
-
-// The factors that make the quotients 1 at their own points.
-pub fn scales(points: &[u8], m: &[u8], ds: &mut [u8])
-    requires { ⌜ Master (now points) (now m) × Apart (now points) × (length (now ds) ≡ length (now points)) ⌝ }
-    ensures { λ r. ⌜ Scales (now (points .entry)) (now (m .entry)) (now (ds .exit)) ⌝ }
+// One coefficient more, `top`: low has the values at the points of the coefficients from it on, ds those of their quotients by X - x.
+fn deepen(points: &[u8], top: u8, low: &mut [u8], ds: &mut [u8])
+    requires { ⌜ (length (now low) ≡ length (now points)) × (length (now ds) ≡ length (now points)) ⌝ }
+    ensures { λ r. ⌜ ((j : ℕ) → j < length (now (points .entry)) →
+        (getD (now (low .exit)) j 0 ≡ add top (mul (getD (now (points .entry)) j 0) (getD (now (low .entry)) j 0)))
+        × (getD (now (ds .exit)) j 0 ≡ add (getD (now (low .exit)) j 0) (mul (getD (now (points .entry)) j 0) (getD (now (ds .entry)) j 0)))) ⌝ }
 {
     let mut j = 0;
     while j < points.len() {
-        let x = points[j];
-        ds[j] = inverse(slope_at(m, x, x));
+        let v = fold(top, points[j], low[j]);
+        low[j] = v;
+        ds[j] = fold(v, points[j], ds[j]);
         j += 1;
     }
+}
+
+// The values of the quotients at their own points. low is room to work in.
+fn slopes(points: &[u8], m: &[u8], low: &mut [u8], ds: &mut [u8])
+    requires { ⌜ (length (now m) ≡ suc (length (now points))) × (length (now low) ≡ length (now points)) × (length (now ds) ≡ length (now points)) ⌝ }
+    ensures { λ r. ⌜ ((j : ℕ) → j < length (now (points .entry))
+        → getD (now (ds .exit)) j 0 ≡ value (quot (getD (now (points .entry)) j 0) (drop 1 (now (m .entry)))) (getD (now (points .entry)) j 0)) ⌝ }
+{
+    let mut i = points.len();
+    clear_at(low, 0, i);
+    clear_at(ds, 0, i);
+    while 0 < i {
+        deepen(points, m[i], low, ds);
+        i -= 1;
+    }
+}
+
+// Each byte's inverse in its place.
+fn invert_all(xs: &mut [u8])
+    ensures { λ r. ⌜ ((j : ℕ) → j < length (now (xs .entry)) → 0 < getD (now (xs .entry)) j 0 → mul (getD (now (xs .entry)) j 0) (getD (now (xs .exit)) j 0) ≡ 1) ⌝ }
+{
+    let mut j = 0;
+    while j < xs.len() {
+        xs[j] = inverse(xs[j]);
+        j += 1;
+    }
+}
+
+// The factors that make the quotients 1 at their own points. low is room to work in.
+pub fn scales(points: &[u8], m: &[u8], low: &mut [u8], ds: &mut [u8])
+    requires { ⌜ Master (now points) (now m) × Apart (now points) × (length (now low) ≡ length (now points)) × (length (now ds) ≡ length (now points)) ⌝ }
+    ensures { λ r. ⌜ Scales (now (points .entry)) (now (m .entry)) (now (ds .exit)) ⌝ }
+{
+    slopes(points, m, low, ds);
+    invert_all(ds);
 }
 
 // The weights of the next lower coefficient.
@@ -112,49 +119,14 @@ pub fn expand(points: &[u8], m: &mut [u8])
     master(points, m);
 }
 
-// The same, and ds has its scales.
-pub fn prepare(points: &[u8], m: &mut [u8], ds: &mut [u8])
-    requires { ⌜ Apart (now points) × (length (now m) ≡ suc (length (now points))) × (length (now ds) ≡ length (now points)) ⌝ }
+// The same, and ds has its scales. low is room to work in.
+pub fn prepare(points: &[u8], m: &mut [u8], low: &mut [u8], ds: &mut [u8])
+    requires { ⌜ Apart (now points) × (length (now m) ≡ suc (length (now points))) × (length (now low) ≡ length (now points))
+        × (length (now ds) ≡ length (now points)) ⌝ }
     ensures { λ r. ⌜ Master (now (points .entry)) (now (m .exit)) × Scales (now (points .entry)) (now (m .exit)) (now (ds .exit)) ⌝ }
 {
     expand(points, m);
-    scales(points, m, ds);
-}
-
-// The weights with which the bytes at the points add up to coefficient q.
-pub fn weights_for(points: &[u8], m: &[u8], ds: &[u8], q: usize, ws: &mut [u8])
-    requires { ⌜ (length (now m) ≡ suc (length (now points))) × (length (now ds) ≡ length (now points)) × (length (now ws) ≡ length (now points))
-        × (q < length (now points)) ⌝ }
-    ensures { λ r. ⌜ Weights (now (points .entry)) (now (m .entry)) (now (ds .entry)) (suc q) (now (ws .exit)) ⌝ }
-{
-    let mut i = points.len();
-    clear_at(ws, 0, i);
-    while q < i {
-        advance(points, ds, m[i], ws);
-        i -= 1;
-    }
-}
-
-// Where byte c of fragment x stands, with room s for each.
-fn place(x: u8, s: usize, c: usize) -> usize
-    requires { ⌜ (0 < x) × (x ≤ 64) × (s ≤ 16388) × (c ≤ s) ⌝ }
-    ensures { λ r. ⌜ r ≡ (x - 1) * s + c ⌝ }
-{
-    (x as usize - 1) * s + c
-}
-
-// Bytes c, c + 1, .. of the fragments at the points, n of them, each times its weight, added up.
-pub fn combine(area: &[u8], s: usize, points: &[u8], ws: &[u8], c: usize, n: usize, sum: &mut [u8])
-    requires { ⌜ Boards (length (now area)) s (now points) × (s ≤ 16388) × (c + n ≤ s) × (length (now ws) ≡ length (now points)) × (n ≤ length (now sum)) ⌝ }
-    ensures { λ r. ⌜ ((i : ℕ) → i < n → getD (now (sum .exit)) i 0 ≡ weighed (now (area .entry)) s (now (points .entry)) (now (ws .entry)) (c + i) (length (now (points .entry)))) ⌝ }
-{
-    clear_at(sum, 0, n);
-    let mut j = 0;
-    while j < points.len() {
-        let from = place(points[j], s, c);
-        accumulate(sum, area, from, n, ws[j]);
-        j += 1;
-    }
+    scales(points, m, low, ds);
 }
 
 // The bytes of src, n of them, into column m from row c on.
@@ -240,28 +212,74 @@ pub fn value_at(row: &[u8], z: u8) -> u8
     v
 }
 
-// The value at z of the quotient of m by X - x, where x is a root of m and m has the value `at` at z: away from x one product and an inverse.
-fn slope_by(m: &[u8], x: u8, z: u8, at: u8) -> u8
-    requires { ⌜ 0 < length (now m) ⌝ }
-    ensures { λ r. ⌜ (value (now (m .entry)) x ≡ 0 → at ≡ value (now (m .entry)) z → r ≡ value (quot x (drop 1 (now (m .entry)))) z) ⌝ }
+// The product of all z - x, x a point.
+fn product_at(points: &[u8], z: u8) -> u8
+    ensures { λ r. ⌜ r ≡ differences (now (points .entry)) z ⌝ }
 {
-    if x == z {
-        return slope_at(m, x, z);
+    let mut v: u8 = 1;
+    let mut j = points.len();
+    while 0 < j {
+        j -= 1;
+        v = product(z ^ points[j], v);
     }
-    product(at, inverse(z ^ x))
+    v
+}
+
+// z - x for each point x.
+fn subtract(points: &[u8], z: u8, out: &mut [u8])
+    requires { ⌜ length (now out) ≡ length (now points) ⌝ }
+    ensures { λ r. ⌜ ((j : ℕ) → j < length (now (points .entry)) → getD (now (out .exit)) j 0 ≡ add z (getD (now (points .entry)) j 0)) ⌝ }
+{
+    let mut j = 0;
+    while j < points.len() {
+        out[j] = z ^ points[j];
+        j += 1;
+    }
+}
+
+// 1 for a point's own weight at the point, which the product of all differences does not give.
+fn own(x: u8, z: u8) -> u8
+    ensures { λ r. ⌜ (x ≡ z → r ≡ 1) × ((x ≡ z → ⊥) → r ≡ 0) ⌝ }
+{
+    if x == z { 1 } else { 0 }
+}
+
+// From the inverses of all z - x the weights: each times its scale and the product of all differences, `at`.
+fn weigh(points: &[u8], ds: &[u8], z: u8, at: u8, ws: &mut [u8])
+    requires { ⌜ (length (now ds) ≡ length (now points)) × (length (now ws) ≡ length (now points)) ⌝ }
+    ensures { λ r. ⌜ ((j : ℕ) → j < length (now (points .entry)) → Weight (getD (now (points .entry)) j 0) z (getD (now (ds .entry)) j 0) at (getD (now (ws .entry)) j 0) (getD (now (ws .exit)) j 0)) ⌝ }
+{
+    let mut j = 0;
+    while j < points.len() {
+        ws[j] = product(ds[j], product(at, ws[j])) ^ own(points[j], z);
+        j += 1;
+    }
 }
 
 // The weights with which the bytes at the points add up to the value at z.
-pub fn weights_at(points: &[u8], m: &[u8], ds: &[u8], z: u8, ws: &mut [u8])
-    requires { ⌜ (0 < length (now m)) × (length (now ds) ≡ length (now points)) × (length (now ws) ≡ length (now points)) ⌝ }
-    ensures { λ r. ⌜ (Master (now (points .entry)) (now (m .entry)) → Values (now (points .entry)) (now (m .entry)) (now (ds .entry)) z (now (ws .exit))) ⌝ }
+pub fn weights_at(points: &[u8], ds: &[u8], z: u8, ws: &mut [u8])
+    requires { ⌜ (length (now ds) ≡ length (now points)) × (length (now ws) ≡ length (now points)) ⌝ }
+    ensures { λ r. ⌜ ((m : List ℕ) → Master (now (points .entry)) m → Scales (now (points .entry)) m (now (ds .entry))
+        → Values (now (points .entry)) m (now (ds .entry)) z (now (ws .exit))) ⌝ }
 {
-    let at = value_at(m, z);
-    let mut j = 0;
-    while j < points.len() {
-        ws[j] = product(ds[j], slope_by(m, points[j], z, at));
-        j += 1;
+    subtract(points, z, ws);
+    invert_all(ws);
+    weigh(points, ds, z, product_at(points, z), ws);
+}
+
+// Whether n bytes of a are those of b from a place on, by all that they differ in: a loop without a branch.
+fn same_bytes(a: &[u8], b: &[u8], from: usize, n: usize) -> bool
+    requires { ⌜ (n ≤ length (now a)) × (from + n ≤ length (now b)) ⌝ }
+    ensures yes { λ r. ⌜ (r ≡ true → (i : ℕ) → i < n → getD (now (a .entry)) i 0 ≡ getD (now (b .entry)) (from + i) 0) ⌝ }
+    ensures no { λ r. ⌜ (((i : ℕ) → i < n → getD (now (a .entry)) i 0 ≡ getD (now (b .entry)) (from + i) 0) → r ≡ true) ⌝ }
+{
+    let mut differ: u8 = 0;
+    let mut i = 0;
+    while i < n {
+        differ = differ | (a[i] ^ b[from + i]);
+        i += 1;
     }
+    differ == 0
 }
 
 // Whether each of count bytes of fragment z is the sum of the bytes at the points by their weights. sum is room to work in.
@@ -283,7 +301,7 @@ fn column_agrees(
     while c < count {
         let n = least(count - c, sum.len());
         combine(area, s, points, ws, c, n, sum);
-        if same_at(sum, 0, area, place(z, s, c), n) {
+        if same_bytes(sum, area, place(z, s, c), n) {
             c += n;
         } else {
             return false;
@@ -313,7 +331,7 @@ fn others_agree(
     let mut i = points.len();
     while i < marked.len() {
         let z = marked[i];
-        weights_at(points, m, ds, z, ws);
+        weights_at(points, ds, z, ws);
         if column_agrees(area, s, points, ws, z, count, sum) {
             i += 1;
         } else {
@@ -344,7 +362,7 @@ fn rebuild_in(
 {
     let k = points.len();
     expand(points, m);
-    scales(points, m, ds);
+    scales(points, m, ws, ds);
     if others_agree(area, s, points, marked, m, ds, count, ws, sum) {
         clear_at(ws, 0, k);
         write_columns(area, s, points, m, ds, count, out, ws, sum);
@@ -370,7 +388,7 @@ fn rebuild_listed(
     let mut m = [0u8; 65];
     let mut ds = [0u8; 64];
     let mut ws = [0u8; 64];
-    let mut sum = [0u8; 64];
+    let mut sum = [0u8; 112];
     rebuild_in(
         area,
         s,

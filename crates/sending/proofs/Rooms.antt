@@ -8,9 +8,6 @@ use lib.ListN.{length}
 use Rattle.octets.specs.Bytes.{put}
 use Rattle.boards.proofs.Within.{ceil-le}
 use Rattle.code.specs.Block.{rows}
-use Rattle.tree.specs.Tree.{rootOf}
-use Rattle.tree.specs.Levels.{Waiting, Raised}
-use Rattle.tree.proofs.Rising.{waiting-first}
 use Rattle.sending.specs.Laying.{Room, Alike}
 use Rattle.octets.proofs.Puts.{put-over}
 
@@ -20,17 +17,6 @@ alike-start at len s = record { same = λ f h. refl }
 -- one more fragment worked out
 pub alike-next : (at len : ℕ) (f s r new : List ℕ) → length f ≡ len → new ≡ put at f s → Alike at len s r → Alike at len new r
 alike-next at len f s r new size e a = record { same = λ g h. ap (put at g) e ∙ put-over g f s at (h ∙ sym size) ∙ a .same g h }
-
--- the first j of c leaves are taken up: what waits for the next, or the root
-pub record Risen (c : ℕ) (fs : ℕ → List ℕ) (j : ℕ) (x w : List ℕ) : Type 0 where
-  pub waits : j < c → Waiting c fs j w
-  pub last : j ≡ c → x ≡ rootOf c fs
-
-pub risen-start : (c : ℕ) (fs : ℕ → List ℕ) (x w : List ℕ) → 0 < c → Risen c fs 0 x w
-risen-start c fs x w some = record { waits = λ h. waiting-first c fs w; last = λ e. absurd (omega arith) }
-
-pub risen-next : (c : ℕ) (fs : ℕ → List ℕ) (j : ℕ) (x w : List ℕ) → Raised c fs j x w → Risen c fs (j + 1) x w
-risen-next c fs j x w r = record { waits = r .waits; last = r .last }
 
 -- the room stays while the buffer is written
 pub room-kept : (k : ℕ) (message : List ℕ) (at len : ℕ) (s r : List ℕ) → length r ≡ length s → Room k message at len s → Room k message at len r

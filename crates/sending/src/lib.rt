@@ -19,7 +19,7 @@ pub struct Sent {
     pub length: u32,
 }
 
-// The root of c fragments, from that of board a + 1 on, each worked out in turn. waiting is room to work in.
+// The root of c fragments, from that of board a + 1 on, each worked out in turn, into the first 32 bytes of the stack.
 fn run_in(
     message: &[u8],
     k: usize,
@@ -28,40 +28,20 @@ fn run_in(
     out: &mut [u8],
     at: usize,
     len: usize,
-    waiting: &mut [u8],
-) -> [u8; 32]
-    requires { ⌜ Room k (now message) at len (now out) × (0 < c) × (a + c ≤ 64) × (192 ≤ length (now waiting)) ⌝ }
-    ensures { λ r. ⌜ (r ≡ rootOf c (λ j. fragments k (now (message .entry)) (a + j))) × Alike at len (now (out .exit)) (now (out .entry)) ⌝ }
+    stack: &mut [u8],
+)
+    requires { ⌜ Room k (now message) at len (now out) × (0 < c) × (a + c ≤ 64) × (224 ≤ length (now stack)) ⌝ }
+    ensures { λ _. ⌜ (part 0 32 (now (stack .exit)) ≡ rootOf c (λ j. fragments k (now (message .entry)) (a + j))) × Alike at len (now (out .exit)) (now (out .entry)) ⌝ }
 {
-    let mut x = [0u8; 32];
     let mut j = 0;
     while j < c {
         encoding::put_fragment(message, k, a + j, out, at);
-        let y = tree::raised(waiting, tree::leaf_part(out, at, len), j, c);
-        x = y;
+        rising::add_leaf(stack, j, c, out, at, len);
         j += 1;
     }
-    x
 }
 
-// The root of c fragments, from that of board a + 1 on.
-fn run_root(
-    message: &[u8],
-    k: usize,
-    a: usize,
-    c: usize,
-    out: &mut [u8],
-    at: usize,
-    len: usize,
-) -> [u8; 32]
-    requires { ⌜ Room k (now message) at len (now out) × (0 < c) × (a + c ≤ 64) ⌝ }
-    ensures { λ r. ⌜ (r ≡ rootOf c (λ j. fragments k (now (message .entry)) (a + j))) × Alike at len (now (out .exit)) (now (out .entry)) ⌝ }
-{
-    let mut waiting = [0u8; 192];
-    run_in(message, k, a, c, out, at, len, &mut waiting)
-}
-
-// The path of board i + 1 a level further: the root of the fragments beside it, if there are any.
+// The path of board i + 1 a level further: the root of the fragments beside it, if there are any. stack is room to work in.
 fn put_node(
     message: &[u8],
     n: usize,
@@ -71,8 +51,9 @@ fn put_node(
     out: &mut [u8],
     at: usize,
     len: usize,
+    stack: &mut [u8],
 )
-    requires { ⌜ Room k (now message) at len (now out) × (n ≤ 64) × (i < n) × (d < 6) × (at ≡ 39 + 32 * depth (treeOf n) i) ⌝ }
+    requires { ⌜ Room k (now message) at len (now out) × (n ≤ 64) × (i < n) × (d < 6) × (at ≡ 39 + 32 * depth (treeOf n) i) × (224 ≤ length (now stack)) ⌝ }
     ensures { λ _. ⌜ ((old : List ℕ) → Laid n (fragments k (now (message .entry))) i d at len old (now (out .entry)) → Laid n (fragments k (now (message .entry))) i (d + 1) at len old (now (out .exit))) ⌝ }
 {
     if n <= tree::middle_of(i, d) {
@@ -80,29 +61,39 @@ fn put_node(
     }
     let a = tree::beside_of(i, d);
     let c = tree::leaf_count(n, d, a);
-    let x = run_root(message, k, a, c, out, at, len);
-    octets::copy_at(out, 37 + 32 * tree::nodes(n, i, d), &x);
+    run_in(message, k, a, c, out, at, len, stack);
+    octets::copy_part(out, 37 + 32 * tree::nodes(n, i, d), stack, 0, 32);
 }
 
-// The path of board i + 1.
-fn put_path(message: &[u8], n: usize, k: usize, i: usize, out: &mut [u8], at: usize, len: usize)
-    requires { ⌜ Room k (now message) at len (now out) × (n ≤ 64) × (i < n) × (at ≡ 39 + 32 * depth (treeOf n) i) ⌝ }
+// The path of board i + 1. stack is room to work in.
+fn put_path(
+    message: &[u8],
+    n: usize,
+    k: usize,
+    i: usize,
+    out: &mut [u8],
+    at: usize,
+    len: usize,
+    stack: &mut [u8],
+)
+    requires { ⌜ Room k (now message) at len (now out) × (n ≤ 64) × (i < n) × (at ≡ 39 + 32 * depth (treeOf n) i) × (224 ≤ length (now stack)) ⌝ }
     ensures { λ _. ⌜ Alike at len (now (out .exit)) (put 37 (flat (pathOf n (fragments k (now (message .entry))) i)) (now (out .entry))) ⌝ }
 {
     let mut d = 0;
     while d < 6 {
-        put_node(message, n, k, i, d, out, at, len);
+        put_node(message, n, k, i, d, out, at, len, stack);
         d += 1;
     }
 }
 
-// The root that the fragment of board i + 1, len bytes, and the path of so many nodes in `out` give.
-fn root_in(out: &[u8], n: usize, i: usize, nodes: usize, len: usize) -> [u8; 32]
-    requires { ⌜ (n ≤ 64) × (i < n) × (nodes ≡ depth (treeOf n) i) × (nodes ≤ 6) × (len ≤ 16388) × (39 + 32 * nodes + len ≤ length (now out)) ⌝ }
-    ensures { λ r. ⌜ r ≡ climb sha256 (nodeOf (part 37 (32 * nodes) (now (out .entry)))) (treeOf n) i (part (39 + 32 * nodes) len (now (out .entry))) ⌝ }
+// The root that the fragment of board i + 1, len bytes, and the path of so many nodes in `out` give, into the first 32 bytes of the stack.
+fn root_in(out: &[u8], n: usize, i: usize, nodes: usize, len: usize, stack: &mut [u8])
+    requires { ⌜ (n ≤ 64) × (i < n) × (nodes ≡ depth (treeOf n) i) × (nodes ≤ 6) × (len ≤ 16388) × (39 + 32 * nodes + len ≤ length (now out)) × (224 ≤ length (now stack)) ⌝ }
+    ensures { λ _. ⌜ part 0 32 (now (stack .exit)) ≡ climb sha256 (nodeOf (part 37 (32 * nodes) (now (out .entry)))) (treeOf n) i (part (39 + 32 * nodes) len (now (out .entry))) ⌝ }
 {
     let end = 37 + 32 * nodes;
-    tree::taken_up(&out[37..end], n, i, tree::leaf_part(out, end + 2, len))
+    rising::put_leaf(out, end + 2, len, stack, rising::top_of(i));
+    rising::climb_up(stack, &out[37..end], n, i);
 }
 
 // The sender's record for board i + 1, at the start of `out`; its length.
@@ -114,13 +105,14 @@ fn put_record(message: &[u8], n: usize, k: usize, i: usize, out: &mut [u8]) -> u
     let len = code::row_count(message.len(), k);
     let nodes = tree::nodes(n, i, 6);
     let at = 39 + 32 * nodes;
+    let mut stack = [0u8; 224];
     octets::copy_at(out, 0, b"\x01\x00\x20");
     octets::put_two(out, 35, nodes);
     octets::put_two(out, 37 + 32 * nodes, len);
-    put_path(message, n, k, i, out, at, len);
+    put_path(message, n, k, i, out, at, len, &mut stack);
     encoding::put_fragment(message, k, i, out, at);
-    let x = root_in(out, n, i, nodes, len);
-    octets::copy_at(out, 3, &x);
+    root_in(out, n, i, nodes, len, &mut stack);
+    octets::copy_part(out, 3, &stack, 0, 32);
     at + len
 }
 

@@ -13,7 +13,7 @@ use Rattle.octets.proofs.Parts.{getD-part, part-front, part-all}
 use Rattle.sha256.specs.Tables.{H0}
 use Rattle.sha256.specs.Sha256.{byteOf, word, next, words, rounds, sums, compress, pad, block, chain, digest, sha256}
 use Rattle.sha256.specs.Chain.{chainFrom}
-use Rattle.sha256.proofs.Padding.{tail, length-pad, pad-zero, pad-length, pad-body}
+use Rattle.sha256.proofs.Padding.{tail, length-pad, pad-zero, pad-length, pad-head, pad-body}
 
 -- ---- the word at a place
 
@@ -38,6 +38,22 @@ word-inside h b i low high =
       f,
       g,
     )
+
+-- words t to u of the block from `at` on
+pub words-inside : (h b : List ℕ) (at t u : ℕ) → length h ≤ at + 4 * t → at + 4 * u ≤ length h + length b
+    → (j : ℕ) → t + j < u → fourAt (pad (h ++ b)) (at + 4 * (t + j)) ≡ fourAt b (at + 4 * t - length h + 4 * j)
+words-inside h b at t u low high j lt =
+    let e : at + 4 * (t + j) - length h ≡ at + 4 * t - length h + 4 * j = omega arith in
+    sym (word-inside h b (at + 4 * (t + j)) (omega arith) (omega arith)) ∙ ap (fourAt b) e
+
+-- the first word, where one byte stands before the body
+pub word-first : (h b : List ℕ) (x : ℕ) → length h ≡ 1 → 3 ≤ length b
+    → x ≡ (getD h 0 0 * 256 + getD b 0 0) * 65536 + (getD b 1 0 * 256 + getD b 2 0) → x ≡ fourAt (pad (h ++ b)) 0
+word-first h b x one few hx =
+    let inside : (i : ℕ) → i < 3 → getD b i 0 ≡ getD (pad (h ++ b)) (i + 1) 0 = λ i lt.
+    let e : i + 1 - length h ≡ i = omega arith in ap (λ (k : ℕ). getD b k 0) (sym e) ∙ sym (pad-body h b (i + 1) (omega arith) (omega arith)) in
+    word-made (pad (h ++ b)) 0 x (getD h 0 0) (getD b 0 0) (getD b 1 0) (getD b 2 0) hx (sym (pad-head h b 0 (omega arith)))
+    (inside 0 (omega arith)) (inside 1 (omega arith)) (inside 2 (omega arith))
 
 -- ---- past the message
 
@@ -141,8 +157,8 @@ block-at p at h = let e : at ≡ 64 * (at / 64) = omega arith in ap (λ (i : ℕ
 -- ---- the chaining
 
 -- a block of 64 bytes stands first in its own padded message
-pub one-block : (b h r : List ℕ) → length b ≡ 64 → r ≡ chainFrom h 1 (pad b) → r ≡ compress h b
-unfolding chainFrom block pad
+pub one-block : (b h r : List ℕ) → length b ≡ 64 → r ≡ compress h (block 0 (pad b)) → r ≡ compress h b
+unfolding block pad
 one-block b h r len hr = hr ∙ ap (compress h) (part-front 0 64 b _ (omega arith) ∙ part-all 64 b len)
 
 chain-from : (p : List ℕ) (n : ℕ) → chainFrom H0 n p ≡ chain n p
@@ -151,20 +167,29 @@ chain-from p zero = refl
 chain-from p (suc n) = ap (λ (h : List ℕ). compress h (block n p)) (chain-from p n)
 
 -- all blocks, from the starting words on, and the digest
-pub all-blocks : (m first h r : List ℕ) (n : ℕ) → n ≡ length (pad m) → first ≡ H0 → h ≡ chainFrom first (n / 64) (pad m) → r ≡ digest h → r ≡ sha256 m
+pub all-blocks : (m first h : List ℕ) (n : ℕ) → n ≡ length (pad m) → first ≡ H0 → h ≡ chainFrom first (n / 64) (pad m) → digest h ≡ sha256 m
 unfolding sha256
-all-blocks m first h r n hn hf hh hr = hr ∙ ap digest (hh ∙ rw (hn, hf) (chain-from (pad m) (length (pad m) / 64)))
+all-blocks m first h n hn hf hh = ap digest (hh ∙ rw (hn, hf) (chain-from (pad m) (length (pad m) / 64)))
 
 -- the rounds over a block's schedule, added
 pub mixed-made : (b h w s r : List ℕ) → w ≡ words b 64 → s ≡ rounds w 64 h → r ≡ sums h s → r ≡ compress h b
 unfolding compress
 mixed-made b h w s r hw hs hr = rw (hr, hs, hw)
 
--- the block from `at` on, taken in
-pub chain-on : (first h r p l : List ℕ) (at : ℕ) → at % 64 ≡ 0 → h ≡ chainFrom first (at / 64) p → l ≡ tab 16 (λ t. fourAt p (at + 4 * t))
-    → ((b : List ℕ) → l ≡ words b 16 → r ≡ compress h b) → r ≡ chainFrom first ((at + 64) / 64) p
-unfolding chainFrom
-chain-on first h r p l at z hh hl hr =
-    let e : (at + 64) / 64 ≡ suc (at / 64) = omega arith in
+-- the words from `at` on are those of a block
+pub block-on : (h r p l : List ℕ) (at : ℕ) → at % 64 ≡ 0 → l ≡ tab 16 (λ t. fourAt p (at + 4 * t))
+    → ((b : List ℕ) → l ≡ words b 16 → r ≡ compress h b) → r ≡ compress h (block (at / 64) p)
+block-on h r p l at z hl hr =
     hr (block (at / 64) p) (hl ∙ sym (words-front p at 16 (omega arith)) ∙ ap (λ (b : List ℕ). words b 16) (block-at p at z))
-    ∙ rw (hh, e)
+
+-- the block from `at` on, taken in
+pub chain-on : (first h r p : List ℕ) (at : ℕ) → at % 64 ≡ 0 → h ≡ chainFrom first (at / 64) p → r ≡ compress h (block (at / 64) p)
+    → r ≡ chainFrom first ((at + 64) / 64) p
+unfolding chainFrom
+chain-on first h r p at z hh hr = let e : (at + 64) / 64 ≡ suc (at / 64) = omega arith in hr ∙ rw (hh, e)
+
+-- eight words stay eight
+pub chain-length : (first h p : List ℕ) (n : ℕ) → first ≡ H0 → h ≡ chainFrom first n p → length h ≡ 8
+unfolding chainFrom compress sums H0
+chain-length first h p zero hf hh = ap length (hh ∙ hf)
+chain-length first h p (suc n) hf hh = ap length hh

@@ -11,9 +11,13 @@ use Rattle.octets.proofs.Walk.{lt-or-le}
 use Rattle.octets.proofs.Tables.{length-tab, getD-tab}
 use Rattle.sha256.specs.Sha256.{byteOf, chain, pad, digest, sha256}
 
+pub digest-length : (h : List ℕ) → length (digest h) ≡ 32
+unfolding digest
+digest-length h = length-tab 32 _
+
 pub sha256-length : (m : List ℕ) → length (sha256 m) ≡ 32
-unfolding sha256 digest
-sha256-length m = length-tab 32 _
+unfolding sha256
+sha256-length m = digest-length _
 
 byte-small : (n x j : ℕ) → byteOf n x j < 256
 unfolding byteOf

@@ -1,5 +1,6 @@
 -- Laws that several proofs cite.
 pub mod Rounds
+pub mod Masks
 pub mod Next
 pub mod Padding
 pub mod Blocks

@@ -1,4 +1,4 @@
--- What the contracts of `state` cite.
+-- What the contracts of `state` and `soundness` cite.
 pub mod State
 pub mod Sound
 pub mod Kept

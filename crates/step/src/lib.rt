@@ -1,16 +1,16 @@
 // A board's step: a record is refused, or taken with all that is then due.
 use board::Plan;
-use board::both;
 use board::keep_record;
-use board::mark;
-use board::plan_for;
-use board::settle;
 use board::write_echo;
 use board::write_vote;
 use boards::Table;
 use boards::fragment_most;
 use delivery::Delivered;
 use delivery::deliver;
+use marking::both;
+use marking::mark;
+use marking::settle;
+use planning::plan_for;
 use state::Marks;
 use state::naming_set;
 use state::read_marks;

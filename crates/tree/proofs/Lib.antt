@@ -7,6 +7,6 @@ pub mod Bound
 pub mod Flat
 pub mod Leaves
 pub mod Checks
-pub mod Rising
 pub mod Paths
 pub mod Runs
+pub mod Lays

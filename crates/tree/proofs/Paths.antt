@@ -111,6 +111,11 @@ module _ (n : ℕ) (fs : ℕ → List ℕ) where
   paths-past d c c′ s h h′ =
       places-alike 192 s n (held d c) (held d c′) (λ i lt. held-past d c i (omega arith) ∙ sym (held-past d c′ i (omega arith)))
 
+  pub paths-done : (d c : ℕ) (s : List ℕ) → n ≤ c → pathsTo n fs d c s ≡ pathsTo n fs (d + 1) 0 s
+  unfolding pathsTo
+  paths-done d c s h =
+      places-alike 192 s n (held d c) (held (d + 1) 0) (λ i lt. held-past d c i (omega arith) ∙ sym (held-yet (d + 1) 0 i (omega arith)))
+
   pub paths-level : (d a : ℕ) (s : List ℕ) → start (d + 1) a ≡ a → n ≤ a + 2 ^ d → pathsTo n fs d a s ≡ pathsTo n fs (d + 1) 0 s
   unfolding pathsTo
   paths-level d a s first h =
@@ -151,7 +156,7 @@ module _ (n : ℕ) (fs : ℕ → List ℕ) where
         more (inl l) = omega (arith, pathTo-length (d + 1) i, depth-most n (d + 1) i)
         more (inr g) = let q : d + 1 ≡ 7 = omega arith in rw q (omega (arith, pathTo-length 7 i, depth-top n i few))
 
-    module _ (e i : ℕ) (below : e < d) (lt : i < n) (g : middle e i < n) where
+    module _ (e i : ℕ) (lt : i < n) (g : middle e i < n) where
       -- leaf i's path as far as a level above e
       node-in : (k : ℕ) → part (32 * depth (around n e i) i) 32 (pathTo n fs (e + 1 + k) i) ≡ besides e i
       node-in k =
@@ -163,18 +168,19 @@ module _ (n : ℕ) (fs : ℕ → List ℕ) where
       long : (k : ℕ) → 32 * depth (around n e i) i + 32 ≤ length (pathTo n fs (e + 1 + k) i)
       long k = omega (arith, pathTo-length (e + 1 + k) i, depth-more n e i g, depth-grows n i lt (e + 1) k)
 
-      -- in the paths as far as level d
-      level : (c : ℕ) → (k : ℕ) × (held d c i ≡ pathTo n fs (e + 1 + k) i)
-      level c = by (lt-or-le i c)
+      -- in the paths as far as level d, and where leaf i is passed as far as level d + 1
+      level : (c : ℕ) → (e < d) ⊎ ((e ≤ d) × (i < c)) → (k : ℕ) × (held d c i ≡ pathTo n fs (e + 1 + k) i)
+      level c (inl below) = by (lt-or-le i c)
         where
           by : (i < c) ⊎ (c ≤ i) → (k : ℕ) × (held d c i ≡ pathTo n fs (e + 1 + k) i)
           by (inl l) = (d - e, held-past d c i l ∙ (let q : d + 1 ≡ e + 1 + (d - e) = omega arith in ap (λ (x : ℕ). pathTo n fs x i) q))
           by (inr l) = (d - (e + 1), held-yet d c i l ∙ (let q : d ≡ e + 1 + (d - (e + 1)) = omega arith in ap (λ (x : ℕ). pathTo n fs x i) q))
+      level c (inr (below, l)) = (d - e, held-past d c i l ∙ (let q : d + 1 ≡ e + 1 + (d - e) = omega arith in ap (λ (x : ℕ). pathTo n fs x i) q))
 
-      pub paths-node : (c : ℕ) (s : List ℕ) → n * 192 ≤ length s → part (i * 192 + 32 * depth (around n e i) i) 32 (pathsTo n fs d c s) ≡ besides e i
+      pub paths-node : (c : ℕ) (s : List ℕ) → (e < d) ⊎ ((e ≤ d) × (i < c)) → n * 192 ≤ length s → part (i * 192 + 32 * depth (around n e i) i) 32 (pathsTo n fs d c s) ≡ besides e i
       unfolding pathsTo
-      paths-node c s room =
-          let at = level c in
+      paths-node c s there room =
+          let at = level c there in
           place-part 192 (held d c) s (held-fits c) n i (32 * depth (around n e i) i) 32 lt (rw (at .1) (long (at .0))) room
           ∙ ap (part (32 * depth (around n e i) i) 32) (at .1) ∙ node-in (at .0)
 
@@ -189,13 +195,13 @@ module _ (n : ℕ) (fs : ℕ → List ℕ) where
         let m = a + 2 ^ e in
         let s : start (e + 1) m ≡ a = start-run (e + 1) a first m (omega arith) (omega (arith, doubles e, positive e)) in
         let k : middle e m ≡ m = middle-is e m ∙ ap (λ (x : ℕ). x + 2 ^ e) s in
-        ap₂ (λ (x : ℕ) (l : List ℕ). part x 32 l) hp are ∙ paths-node few d top e m below h (omega arith) c old far
+        ap₂ (λ (x : ℕ) (l : List ℕ). part x 32 l) hp are ∙ paths-node few d top e m h (omega arith) c old (inl below) far
         ∙ besides-right e m (omega arith) ∙ ap (λ (x : ℕ). root sha256 fs (span n e x)) s
 
     right-stands : (q : ℕ) → q ≡ a * 192 + 32 * depth (around n e a) a → part q 32 paths ≡ root sha256 fs (span n e (a + 2 ^ e))
     right-stands q hq =
         let k : middle e a ≡ a + 2 ^ e = middle-is e a ∙ ap (λ (x : ℕ). x + 2 ^ e) first in
-        ap₂ (λ (x : ℕ) (l : List ℕ). part x 32 l) hq are ∙ paths-node few d top e a below (omega arith) (omega arith) c old far
+        ap₂ (λ (x : ℕ) (l : List ℕ). part x 32 l) hq are ∙ paths-node few d top e a (omega arith) (omega arith) c old (inl below) far
         ∙ besides-left e a (omega (arith, positive e)) ∙ ap (λ (x : ℕ). root sha256 fs (span n e x)) k
 
     pub halves-root : (p q : ℕ) (x : List ℕ) → p ≡ (a + 2 ^ e) * 192 + 32 * depth (around n e (a + 2 ^ e)) (a + 2 ^ e) → q ≡ a * 192 + 32 * depth (around n e a) a

@@ -85,7 +85,7 @@ beside-low n d i lt h =
     ⊎-elim (λ l. rw (lt-ltb i (middle d i) l) h) (λ g. rw (le-ltb i (middle d i) g) (omega (arith, start-low (d + 1) i))) (lt-or-le i (middle d i))
 
 module _ (n : ℕ) (fs : ℕ → List ℕ) (d i : ℕ) where
-  besides-span : besides n fs d i ≡ root sha256 fs (span n d (beside d i))
+  pub besides-span : besides n fs d i ≡ root sha256 fs (span n d (beside d i))
   unfolding besides beside pick
   besides-span = elim (ltb i (middle d i)) as (λ b. _≡_ {A = List ℕ} (pick b (root sha256 fs (span n d (middle d i))) (root sha256 fs (span n d (start (d + 1) i))))
       (root sha256 fs (span n d (pick b (middle d i) (start (d + 1) i))))) [

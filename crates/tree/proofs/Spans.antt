@@ -88,6 +88,13 @@ pub start-low : (d i : ℕ) → start d i ≤ i
 unfolding start
 start-low d i = omega arith
 
+pub start-again : (d i : ℕ) → start d (start d i) ≡ start d i
+unfolding start
+start-again d i =
+    let w = 2 ^ d in
+    let e : i - i % w ≡ i / w * w = omega (arith, N.div-add-mod' i w) in
+    rw (e, N.mul-mod-left (i / w) w) (N.sub-zero (i / w * w))
+
 -- each leaf of a run has the run's first leaf, and a run follows on a run
 module _ (d a : ℕ) (first : start d a ≡ a) where
   pub start-run : (i : ℕ) → a ≤ i → i < a + 2 ^ d → start d i ≡ a

@@ -1,11 +1,10 @@
 -- The tree by levels, as the loops go through it. `proofs/Spans.antt` shows that it is the tree of RFC 6962.
-use Prim.Native.Nat.{ℕ, zero, suc, _+_, _-_, _*_, _%_, _^_, _≤_, _<_}
-use mathlib.Core.Path.{_≡_}
+use Prim.Native.Nat.{ℕ, zero, suc, _+_, _-_, _%_, _^_}
 use mathlib.Core.List.{List}
 use lib.Dec.{ltb}
-use Rattle.octets.specs.Bytes.{pick, part, placeEach}
+use Rattle.octets.specs.Bytes.{pick, placeEach}
 use Rattle.sha256.specs.Sha256.{sha256}
-use Rattle.tree.specs.Tree.{Tree, tip, fork, root, path, flat, rootOf}
+use Rattle.tree.specs.Tree.{Tree, tip, fork, path, flat}
 
 -- the tree over the leaves from a on: 2 ^ d of them, or fewer where the n leaves end
 unfoldable pub span : ℕ → ℕ → ℕ → Tree
@@ -27,17 +26,6 @@ around n d i = span n d (start d i)
 -- the first leaf of the tree beside leaf i at level d
 unfoldable pub beside : ℕ → ℕ → ℕ
 beside d i = pick (ltb i (middle d i)) (middle d i) (start (d + 1) i)
-
--- ---- a root from leaves that come one after the other
-
--- before leaf i: for each level at which leaf i is on the right, the hash of what is on the left waits in that level's 32 bytes of w
-pub record Waiting (n : ℕ) (fs : ℕ → List ℕ) (i : ℕ) (w : List ℕ) : Type 0 where
-  pub left : (d : ℕ) → d < 6 → middle d i ≤ i → part (32 * d) 32 w ≡ root sha256 fs (span n d (start (d + 1) i))
-
--- after leaf i, with the hash r: what waits for leaf i + 1, or the root
-pub record Raised (n : ℕ) (fs : ℕ → List ℕ) (i : ℕ) (r w : List ℕ) : Type 0 where
-  pub waits : i + 1 < n → Waiting n fs (i + 1) w
-  pub last : i + 1 ≡ n → r ≡ rootOf n fs
 
 -- ---- all paths, a level after the other
 

@@ -2,34 +2,13 @@
 ghost use mathlib.Core.Path.{_≡_};
 ghost use mathlib.Core.List.{List, _++_};
 ghost use Prim.Native.Nat.{ℕ, _<_, _≤_, _+_, _-_, _*_, _^_, min};
-ghost use mathlib.Core.Bool.{_&&_};
-ghost use lib.Dec.{ltb};
-ghost use lib.ListN.{length, getD};
-ghost use Rattle.octets.specs.Bytes.{part, put, pick, placeEach};
-ghost use Rattle.sha256.specs.Sha256.{sha256};
+ghost use lib.ListN.{length};
+ghost use Rattle.octets.specs.Bytes.{part, put, placeEach};
+ghost use Rattle.sha256.specs.Sha256.{digest, sha256};
 ghost use Rattle.tree.specs.Tree.{leafHash, nodeHash, root, climb, flat, treeOf, depth, rootOf, pathOf};
 ghost use Rattle.tree.specs.Check.{nodeOf, pathCorrect};
-ghost use Rattle.tree.specs.Levels.{span, start, middle, around, beside, Waiting, Raised, pathsTo};
+ghost use Rattle.tree.specs.Levels.{span, start, middle, around, beside, pathsTo};
 ghost use Rattle.tree.specs.Area.{fragmentAt, Rooms};
-
-// The hash of a leaf.
-pub fn leaf(f: &[u8]) -> [u8; 32]
-    requires { ⌜ length (now f) ≤ 65535 ⌝ }
-    ensures { λ r. ⌜ r ≡ leafHash sha256 (now (f .entry)) ⌝ }
-{
-    sha256::joined(b"\0", f)
-}
-
-// The hash of a node over the node of a from i on and the node of b from j on.
-fn node(a: &[u8], i: usize, b: &[u8], j: usize) -> [u8; 32]
-    requires { ⌜ (i + 32 ≤ length (now a)) × (j + 32 ≤ length (now b)) ⌝ }
-    ensures { λ r. ⌜ r ≡ nodeHash sha256 (part i 32 (now (a .entry))) (part j 32 (now (b .entry))) ⌝ }
-{
-    let mut left = [1u8; 33];
-    octets::copy_part(&mut left, 1, a, i, 32);
-    let to = j + 32;
-    sha256::joined(&left, &b[j..to])
-}
 
 // How many leaves a tree d levels high has, where it is full.
 fn width(d: usize) -> usize
@@ -71,44 +50,61 @@ pub fn nodes(n: usize, i: usize, d: usize) -> usize
     count
 }
 
-// The hash x of the tree d levels high that leaf i is in, taken up a level: beside node j of the path, or alone.
-fn lift(x: &mut [u8; 32], path: &[u8], n: usize, i: usize, j: usize, d: usize)
-    requires { ⌜ (n ≤ 64) × (i < n) × (d < 6) × (j ≤ 6) × (length (now x) ≡ 32) × (middle d i < n → 32 * j + 32 ≤ length (now path)) ⌝ }
-    ensures { λ _. ⌜ (length (now (x .exit)) ≡ 32) × ((f : List ℕ) → now (x .entry) ≡ climb sha256 (nodeOf (now (path .entry))) (around n d i) i f → j ≡ depth (around n d i) i → now (x .exit) ≡ climb sha256 (nodeOf (now (path .entry))) (around n (d + 1) i) i f) ⌝ }
+// Where in the pair of a node the half is that leaf i is in, if the right half begins with leaf m.
+fn side(i: usize, m: usize) -> usize
+    ensures { λ r. ⌜ (r ≤ 32) × (i < m → r ≡ 0) × (m ≤ i → r ≡ 32) ⌝ }
+{
+    if i < m { 0 } else { 32 }
+}
+
+// The 64 bytes that are hashed for a node after its prefix: the digest of h from `at` on, 0 or 32, and the path's node from a place on in the other half.
+fn set_pair(pair: &mut [u8], h: &[u32; 8], at: usize, path: &[u8], from: usize)
+    requires { ⌜ (length (now pair) ≡ 64) × (length (now h) ≡ 8) × (at ≤ 32) × (from + 32 ≤ length (now path)) ⌝ }
+    ensures { λ _. ⌜ (at ≡ 0 → now (pair .exit) ≡ digest (now (h .entry)) ++ part from 32 (now (path .entry)))
+        × (at ≡ 32 → now (pair .exit) ≡ part from 32 (now (path .entry)) ++ digest (now (h .entry))) ⌝ }
+{
+    sha256::put_digest(h, pair, at);
+    octets::copy_part(pair, 32 - at, path, from, 32);
+}
+
+// The digest of h, the hash of the tree d levels high that leaf i is in, taken up a level: beside node j of the path, or alone. How many nodes are
+// used then. pair is room to work in.
+fn rise(
+    h: &mut [u32; 8],
+    pair: &mut [u8],
+    path: &[u8],
+    n: usize,
+    i: usize,
+    j: usize,
+    d: usize,
+) -> usize
+    requires { ⌜ (n ≤ 64) × (i < n) × (d < 6) × (j ≡ depth (around n d i) i) × (length (now h) ≡ 8) × (length (now pair) ≡ 64) × (length (now path) ≡ 32 * depth (treeOf n) i) ⌝ }
+    ensures { λ r. ⌜ (length (now (h .exit)) ≡ 8) × (length (now (pair .exit)) ≡ 64) × (r ≡ depth (around n (d + 1) i) i)
+        × ((f : List ℕ) → digest (now (h .entry)) ≡ climb sha256 (nodeOf (now (path .entry))) (around n d i) i f → digest (now (h .exit)) ≡ climb sha256 (nodeOf (now (path .entry))) (around n (d + 1) i) i f) ⌝ }
 {
     let m = middle_of(i, d);
     if n <= m {
-        return;
+        return j;
     }
-    if i < m {
-        let y = node(x, 0, path, 32 * j);
-        *x = y;
-        return;
-    }
-    let z = node(path, 32 * j, x, 0);
-    *x = z;
+    set_pair(pair, h, side(i, m), path, 32 * j);
+    sha256::take_all(h, b"\x01", pair);
+    j + 1
 }
 
-// The hash x of leaf i of n, taken up beside the nodes of the path.
-fn climb_up(x: &mut [u8; 32], path: &[u8], n: usize, i: usize)
-    requires { ⌜ (n ≤ 64) × (i < n) × (length (now x) ≡ 32) × (length (now path) ≡ 32 * depth (treeOf n) i) ⌝ }
-    ensures { λ _. ⌜ (length (now (x .exit)) ≡ 32) × ((f : List ℕ) → now (x .entry) ≡ leafHash sha256 f → now (x .exit) ≡ climb sha256 (nodeOf (now (path .entry))) (treeOf n) i f) ⌝ }
+// The digest of h, the hash of leaf i of n, taken up beside the nodes of the path. pair is room to work in. Called from one place, so that
+// the compiler folds it into the path check's frame: hence the climb of its own that taken_up has.
+fn rise_up(h: &mut [u32; 8], pair: &mut [u8], path: &[u8], n: usize, i: usize)
+    requires { ⌜ (n ≤ 64) × (i < n) × (length (now h) ≡ 8) × (length (now pair) ≡ 64) × (length (now path) ≡ 32 * depth (treeOf n) i) ⌝ }
+    ensures { λ _. ⌜ (length (now (h .exit)) ≡ 8) × (length (now (pair .exit)) ≡ 64)
+        × ((f : List ℕ) → digest (now (h .entry)) ≡ leafHash sha256 f → digest (now (h .exit)) ≡ climb sha256 (nodeOf (now (path .entry))) (treeOf n) i f) ⌝ }
 {
+    let mut j: usize = 0;
     let mut d: usize = 0;
     while d < 6 {
-        lift(x, path, n, i, nodes(n, i, d), d);
+        let next = rise(h, pair, path, n, i, j, d);
+        j = next;
         d += 1;
     }
-}
-
-// The hash h of leaf i of n, taken up beside the nodes of the path.
-pub fn taken_up(path: &[u8], n: usize, i: usize, h: [u8; 32]) -> [u8; 32]
-    requires { ⌜ (n ≤ 64) × (i < n) × (length (now path) ≡ 32 * depth (treeOf n) i) ⌝ }
-    ensures { λ r. ⌜ ((f : List ℕ) → h ≡ leafHash sha256 f → r ≡ climb sha256 (nodeOf (now (path .entry))) (treeOf n) i f) ⌝ }
-{
-    let mut x = h;
-    climb_up(&mut x, path, n, i);
-    x
 }
 
 // Whether the path is correct for the fragment of board i of n, from 1, under the root.
@@ -136,69 +132,32 @@ pub fn correct(n: usize, i: usize, root: &[u8], path: &[u8], f: &[u8]) -> bool
     if path.len() != 32 * nodes(n, i - 1, 6) {
         return false;
     }
-    let mut x = leaf(f);
-    climb_up(&mut x, path, n, i - 1);
-    octets::same_at(&x, 0, root, 0, 32)
+    let mut h = sha256::begun();
+    sha256::take_all(&mut h, b"\0", f);
+    let mut pair = [0u8; 64];
+    rise_up(&mut h, &mut pair, path, n, i - 1);
+    sha256::put_digest(&h, &mut pair, 0);
+    octets::same_at(&pair, 0, root, 0, 32)
 }
 
-// Whether the tree d levels high that leaf i is in is a left half whose right half is still to come.
-fn stays(i: usize, n: usize, d: usize) -> bool
-    requires { ⌜ (i < 64) × (d < 6) ⌝ }
-    ensures { λ r. ⌜ r ≡ (ltb i (middle d i) && ltb (middle d i) n) ⌝ }
-{
-    let m = middle_of(i, d);
-    if m <= i {
-        return false;
-    }
-    m < n
-}
-
-// The hash x of the tree d levels high that leaf i is in, taken up a level: beside what waits on its left, or alone.
-fn close(x: &mut [u8; 32], waiting: &[u8], i: usize, d: usize)
-    requires { ⌜ (i < 64) × (d < 6) × (length (now x) ≡ 32) × (192 ≤ length (now waiting)) ⌝ }
-    ensures { λ _. ⌜ (length (now (x .exit)) ≡ 32) × (now (x .exit) ≡ pick (ltb i (middle d i)) (now (x .entry)) (nodeHash sha256 (part (32 * d) 32 (now (waiting .entry))) (now (x .entry)))) ⌝ }
-{
-    let m = middle_of(i, d);
-    if i < m {
-        return;
-    }
-    let y = node(waiting, 32 * d, x, 0);
-    *x = y;
-}
-
-// The root of n leaves that come one after the other: leaf i's hash x, after those before it. The last leaf's answer is the root.
-pub fn raised(waiting: &mut [u8], x: [u8; 32], i: usize, n: usize) -> [u8; 32]
-    requires { ⌜ (i < n) × (n ≤ 64) × (192 ≤ length (now waiting)) ⌝ }
-    ensures { λ r. ⌜ ((fs : ℕ → List ℕ) → x ≡ leafHash sha256 (fs i) → Waiting n fs i (now (waiting .entry)) → Raised n fs i r (now (waiting .exit))) ⌝ }
-{
-    let mut y = x;
-    let mut d: usize = 0;
-    while d < 6 {
-        if stays(i, n, d) {
-            octets::copy_at(waiting, 32 * d, &y);
-            return y;
-        }
-        close(&mut y, waiting, i, d);
-        d += 1;
-    }
-    y
-}
-
-// The hash of the leaf that stands in a buffer: len bytes from a place on.
-pub fn leaf_part(buffer: &[u8], from: usize, len: usize) -> [u8; 32]
+// The chaining words of the hash of the leaf that stands in a buffer: len bytes from a place on.
+fn take_leaf(h: &mut [u32; 8], buffer: &[u8], from: usize, len: usize)
     requires { ⌜ (len ≤ 65535) × (from + len ≤ length (now buffer)) ⌝ }
-    ensures { λ r. ⌜ r ≡ leafHash sha256 (part from len (now (buffer .entry))) ⌝ }
+    ensures { λ _. ⌜ (length (now (h .exit)) ≡ 8) × (digest (now (h .exit)) ≡ leafHash sha256 (part from len (now (buffer .entry)))) ⌝ }
 {
     let to = from + len;
-    leaf(&buffer[from..to])
+    sha256::take_all(h, b"\0", &buffer[from..to]);
 }
 
-// The hash of fragment i of an area: len bytes at every s bytes.
-fn leaf_at(area: &[u8], s: usize, len: usize, i: usize) -> [u8; 32]
-    requires { ⌜ (len ≤ 65535) × (i * s + len ≤ length (now area)) ⌝ }
-    ensures { λ r. ⌜ r ≡ leafHash sha256 (fragmentAt s len (now (area .entry)) i) ⌝ }
+// The chaining words of the hash of a node over the nodes of a buffer from p and from q on.
+fn take_node(h: &mut [u32; 8], buffer: &[u8], p: usize, q: usize)
+    requires { ⌜ (p + 32 ≤ length (now buffer)) × (q + 32 ≤ length (now buffer)) ⌝ }
+    ensures { λ _. ⌜ (length (now (h .exit)) ≡ 8) × (digest (now (h .exit)) ≡ nodeHash sha256 (part p 32 (now (buffer .entry))) (part q 32 (now (buffer .entry)))) ⌝ }
 {
-    leaf_part(area, i * s, len)
+    let mut pair = [0u8; 64];
+    octets::copy_part(&mut pair, 0, buffer, p, 32);
+    octets::copy_part(&mut pair, 32, buffer, q, 32);
+    sha256::take_all(h, b"\x01", &pair);
 }
 
 // The height at which the tree d levels high from leaf a on forks: 0 for a leaf.
@@ -224,8 +183,10 @@ fn place(n: usize, i: usize, d: usize) -> usize
     i * 192 + 32 * nodes(n, i, d)
 }
 
-// The hash of the tree d levels high from leaf a on: of its leaf, or of its halves' hashes, which stand beside each other's leaves in the paths.
-fn node_at(
+// The chaining words of the hash of the tree d levels high from leaf a on: of its leaf, or of its halves' hashes, which stand beside each
+// other's leaves in the paths.
+fn take_tree(
+    h: &mut [u32; 8],
     area: &[u8],
     s: usize,
     len: usize,
@@ -233,29 +194,18 @@ fn node_at(
     d: usize,
     a: usize,
     paths: &[u8],
-) -> [u8; 32]
+)
     requires { ⌜ Rooms n s len (now area) (now paths) × (d ≤ 6) × (a < n) × (start d a ≡ a) ⌝ }
-    ensures { λ r. ⌜ ((c : ℕ) (old : List ℕ) → now (paths .entry) ≡ pathsTo n (fragmentAt s len (now (area .entry))) d c old → r ≡ root sha256 (fragmentAt s len (now (area .entry))) (span n d a)) ⌝ }
+    ensures { λ _. ⌜ (length (now (h .exit)) ≡ 8) × ((c : ℕ) (old : List ℕ) → now (paths .entry) ≡ pathsTo n (fragmentAt s len (now (area .entry))) d c old
+        → digest (now (h .exit)) ≡ root sha256 (fragmentAt s len (now (area .entry))) (span n d a)) ⌝ }
 {
     let e = fork_of(n, d, a);
     if e < 1 {
-        return leaf_at(area, s, len, a);
-    }
-    let m = a + width(e - 1);
-    node(paths, place(n, m, e - 1), paths, place(n, a, e - 1))
-}
-
-// Leaf i's path a level further, beside l where i is in the right half, beside r where it is in the left half.
-fn extended(paths: &mut [u8], n: usize, d: usize, i: usize, l: &[u8], r: &[u8])
-    requires { ⌜ (n ≤ 64) × (i < n) × (d < 6) × (n * 192 ≤ length (now paths)) × (length (now l) ≡ 32) × (length (now r) ≡ 32) ⌝ }
-    ensures { λ _. ⌜ ((fs : ℕ → List ℕ) (old : List ℕ) → middle d i < n → now (l .entry) ≡ root sha256 fs (span n d (start (d + 1) i)) → now (r .entry) ≡ root sha256 fs (span n d (middle d i)) → now (paths .entry) ≡ pathsTo n fs d i old → now (paths .exit) ≡ pathsTo n fs d (i + 1) old) ⌝ }
-{
-    let at = place(n, i, d);
-    if i < middle_of(i, d) {
-        octets::copy_at(paths, at, r);
+        take_leaf(h, area, a * s, len);
         return;
     }
-    octets::copy_at(paths, at, l);
+    let m = a + width(e - 1);
+    take_node(h, paths, place(n, m, e - 1), place(n, a, e - 1));
 }
 
 // The smaller one.
@@ -263,48 +213,6 @@ pub fn least(x: usize, y: usize) -> usize
     ensures { λ r. ⌜ r ≡ min x y ⌝ }
 {
     if x < y { x } else { y }
-}
-
-// The paths of all leaves of the tree d + 1 levels high from leaf a on, a level further: l and r are the hashes of its halves.
-fn spread(paths: &mut [u8], n: usize, d: usize, a: usize, l: &[u8], r: &[u8])
-    requires { ⌜ (n ≤ 64) × (d < 6) × (a + 2 ^ d < n) × (start (d + 1) a ≡ a) × (n * 192 ≤ length (now paths)) × (length (now l) ≡ 32) × (length (now r) ≡ 32) ⌝ }
-    ensures { λ _. ⌜ ((fs : ℕ → List ℕ) (old : List ℕ) → now (l .entry) ≡ root sha256 fs (span n d a) → now (r .entry) ≡ root sha256 fs (span n d (a + 2 ^ d)) → now (paths .entry) ≡ pathsTo n fs d a old → now (paths .exit) ≡ pathsTo n fs d (a + 2 ^ (d + 1)) old) ⌝ }
-{
-    let end = least(n, a + width(d + 1));
-    let mut i = a;
-    while i < end {
-        extended(paths, n, d, i, l, r);
-        i += 1;
-    }
-}
-
-// All paths a level further.
-fn further(area: &[u8], s: usize, len: usize, n: usize, d: usize, paths: &mut [u8])
-    requires { ⌜ Rooms n s len (now area) (now paths) × (d < 6) ⌝ }
-    ensures { λ _. ⌜ ((old : List ℕ) → now (paths .entry) ≡ pathsTo n (fragmentAt s len (now (area .entry))) d 0 old → now (paths .exit) ≡ pathsTo n (fragmentAt s len (now (area .entry))) (d + 1) 0 old) ⌝ }
-{
-    let w = width(d);
-    let mut a: usize = 0;
-    while a + w < n {
-        let l = node_at(area, s, len, n, d, a, paths);
-        let r = node_at(area, s, len, n, d, a + w, paths);
-        spread(paths, n, d, a, &l, &r);
-        a += 2 * w;
-    }
-}
-
-// The root and the paths of n fragments of an area, each of len bytes, at every s bytes.
-pub fn write_tree(area: &[u8], s: usize, len: usize, n: usize, root: &mut [u8], paths: &mut [u8])
-    requires { ⌜ Rooms n s len (now area) (now paths) × (32 ≤ length (now root)) ⌝ }
-    ensures { λ _. ⌜ (now (root .exit) ≡ put 0 (rootOf n (fragmentAt s len (now (area .entry)))) (now (root .entry))) × (now (paths .exit) ≡ placeEach n 192 (λ i. flat (pathOf n (fragmentAt s len (now (area .entry))) i)) (now (paths .entry))) ⌝ }
-{
-    let mut d: usize = 0;
-    while d < 6 {
-        further(area, s, len, n, d, paths);
-        d += 1;
-    }
-    let x = node_at(area, s, len, n, 6, 0, paths);
-    octets::copy_at(root, 0, &x);
 }
 
 // The first leaf of the tree beside leaf i at level d.
@@ -317,6 +225,74 @@ pub fn beside_of(i: usize, d: usize) -> usize
         return m;
     }
     first_of(i, d + 1)
+}
+
+// The 32 bytes from a place on, once more at a place after them.
+fn repeat_at(s: &mut [u8], from: usize, to: usize)
+    requires { ⌜ (from + 32 ≤ to) × (to + 32 ≤ length (now s)) ⌝ }
+    ensures { λ _. ⌜ now (s .exit) ≡ put to (part from 32 (now (s .entry))) (now (s .entry)) ⌝ }
+{
+    let mut k: usize = 0;
+    while k < 32 {
+        s[to + k] = s[from + k];
+        k += 1;
+    }
+}
+
+// The paths of the leaves of the tree d levels high from leaf c on, a level further: h has the hash of the tree beside it. It is written once, and
+// copied from there.
+fn lay(paths: &mut [u8], n: usize, d: usize, c: usize, h: &[u32; 8])
+    requires { ⌜ (n ≤ 64) × (c < n) × (d < 6) × (start d c ≡ c) × (middle d c < n) × (n * 192 ≤ length (now paths)) × (length (now h) ≡ 8) ⌝ }
+    ensures { λ _. ⌜ ((fs : ℕ → List ℕ) (old : List ℕ) → digest (now (h .entry)) ≡ root sha256 fs (span n d (beside d c)) → now (paths .entry) ≡ pathsTo n fs d c old → now (paths .exit) ≡ pathsTo n fs d (c + 2 ^ d) old) ⌝ }
+{
+    let from = place(n, c, d);
+    sha256::put_digest(h, paths, from);
+    let end = least(n, c + width(d));
+    let mut i = c + 1;
+    while i < end {
+        repeat_at(paths, from, place(n, i, d));
+        i += 1;
+    }
+}
+
+// All paths a level further: tree after tree d levels high, each beside its other half. h is room to work in.
+fn further(
+    h: &mut [u32; 8],
+    area: &[u8],
+    s: usize,
+    len: usize,
+    n: usize,
+    d: usize,
+    paths: &mut [u8],
+)
+    requires { ⌜ Rooms n s len (now area) (now paths) × (d < 6) ⌝ }
+    ensures { λ _. ⌜ ((old : List ℕ) → now (paths .entry) ≡ pathsTo n (fragmentAt s len (now (area .entry))) d 0 old → now (paths .exit) ≡ pathsTo n (fragmentAt s len (now (area .entry))) (d + 1) 0 old) ⌝ }
+{
+    let w = width(d);
+    let mut c: usize = 0;
+    while c < n {
+        if n <= middle_of(c, d) {
+            return;
+        }
+        take_tree(h, area, s, len, n, d, beside_of(c, d), paths);
+        lay(paths, n, d, c, h);
+        c += w;
+    }
+}
+
+// The root and the paths of n fragments of an area, each of len bytes, at every s bytes.
+pub fn write_tree(area: &[u8], s: usize, len: usize, n: usize, root: &mut [u8], paths: &mut [u8])
+    requires { ⌜ Rooms n s len (now area) (now paths) × (32 ≤ length (now root)) ⌝ }
+    ensures { λ _. ⌜ (now (root .exit) ≡ put 0 (rootOf n (fragmentAt s len (now (area .entry)))) (now (root .entry))) × (now (paths .exit) ≡ placeEach n 192 (λ i. flat (pathOf n (fragmentAt s len (now (area .entry))) i)) (now (paths .entry))) ⌝ }
+{
+    let mut h = sha256::begun();
+    let mut d: usize = 0;
+    while d < 6 {
+        further(&mut h, area, s, len, n, d, paths);
+        d += 1;
+    }
+    take_tree(&mut h, area, s, len, n, 6, 0, paths);
+    sha256::put_digest(&h, root, 0);
 }
 
 // How many leaves the tree d levels high from leaf a on has.

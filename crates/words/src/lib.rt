@@ -1,11 +1,10 @@
 // Lines, words, numbers and hex in bytes.
 ghost use mathlib.Core.Path.{_≡_};
-ghost use mathlib.Core.List.{_∷_};
-ghost use Prim.Native.Nat.{ℕ, _+_, _*_, _/_, _%_, _≤_, _<_};
-ghost use lib.ListN.{length, drop, take};
+ghost use Prim.Native.Nat.{_+_, _*_, _/_, _%_, _≤_, _<_};
+ghost use lib.ListN.{length, drop};
 ghost use Rattle.octets.specs.Bytes.{put};
 ghost use Rattle.words.specs.Words.{upto, past, count, skip, word};
-ghost use Rattle.words.specs.Numbers.{withDigit, valueOf, numberOf, digit, decimal, hexDigit, hexDigits, isHex, bytesOf, letter, hexOf};
+ghost use Rattle.words.specs.Numbers.{withDigit, valueOf, numberOf, hexDigit, hexDigits, isHex, bytesOf};
 
 // Where the first `c` from `at` on stands, or the end.
 pub fn find(s: &[u8], at: usize, c: u8) -> usize
@@ -199,57 +198,4 @@ pub fn decode_in(s: &[u8], i: usize, out: &mut [u8])
     let a = word_start(s, i);
     let e = find(s, a, b' ');
     decode(&s[a..e], out);
-}
-
-fn letter_of(d: u8) -> u8
-    requires { ⌜ d < 16 ⌝ }
-    ensures { λ r. ⌜ r ≡ letter d ⌝ }
-{
-    if d < 10 { 48 + d } else { 87 + d }
-}
-
-// The first n bytes of `s` in hex, put in.
-pub fn put_hex(out: &mut [u8], at: usize, s: &[u8], n: usize)
-    requires { ⌜ (at + 2 * n ≤ length (now out)) × (n ≤ length (now s)) ⌝ }
-    ensures { λ _. ⌜ now (out .exit) ≡ put at (hexOf (take n (now (s .entry)))) (now (out .entry)) ⌝ }
-{
-    let mut i = 0;
-    while i < n {
-        out[at + 2 * i] = letter_of(s[i] / 16);
-        out[at + 2 * i + 1] = letter_of(s[i] % 16);
-        i += 1;
-    }
-}
-
-fn digit_of(n: usize) -> u8
-    ensures { λ r. ⌜ r ≡ digit n ⌝ }
-{
-    48 + (n % 10) as u8
-}
-
-// A number below 10,000 in decimal, put in; where it ends.
-pub fn put_decimal(out: &mut [u8], at: usize, n: usize) -> usize
-    requires { ⌜ at + 4 ≤ length (now out) ⌝ }
-    ensures { λ r. ⌜ (now (out .exit) ≡ put at (decimal n) (now (out .entry))) × (r ≡ at + length (decimal n)) × (r ≤ at + 4) ⌝ }
-{
-    if n < 10 {
-        out[at] = digit_of(n);
-        return at + 1;
-    }
-    if n < 100 {
-        out[at] = digit_of(n / 10);
-        out[at + 1] = digit_of(n);
-        return at + 2;
-    }
-    if n < 1000 {
-        out[at] = digit_of(n / 100);
-        out[at + 1] = digit_of(n / 10);
-        out[at + 2] = digit_of(n);
-        return at + 3;
-    }
-    out[at] = digit_of(n / 1000);
-    out[at + 1] = digit_of(n / 100);
-    out[at + 2] = digit_of(n / 10);
-    out[at + 3] = digit_of(n);
-    at + 4
 }

@@ -1,8 +1,13 @@
 -- `delivery::size_in` meets its contract.
 -- Assumes nothing.
-use mathlib.Core.Path.{_∙_}
+use mathlib.Core.Path.{sym, _∙_, subst}
+use Prim.Native.Nat.{ℕ}
+use native.Mathlib.Nat as N
 use native.Mathlib.Omega.{arith}
+use lib.ListN.{length}
 use Rattle.octets.specs.Bytes.{fourAt}
+use Rattle.delivery.specs.Working.{Row}
+use Rattle.delivery.proofs.Lines.{same-row}
 use borrow.Author.Needs.{needs}
 use Rattle.delivery.proofs.size_in.Statement.{statement}
 use Rattle.delivery.proofs.size_in.Tie as tie
@@ -10,137 +15,54 @@ use Rattle.delivery.proofs.size_in.Tie as tie
 byte-at-requires : tie.Need-byte-at-requires
 byte-at-requires c κs = search needs
 
-wide-requires : tie.Need-wide-requires
-wide-requires c κs = search needs
-
 byte-at-requires-2 : tie.Need-byte-at-requires-2
-byte-at-requires-2 c κs = search needs
-
-wide-requires-2 : tie.Need-wide-requires-2
-wide-requires-2 c κs = search needs
+byte-at-requires-2 c κs = let p = c .before .before .before .before .before .before .before .before .before .before .before .before .before .before .before .before .before .before .before .before .pre in (p .0, p .1, omega (arith, p .2), c .before .before .before .before .before .before .before .before .before .byte-at .kept .1 .1 .1 .1 .1 .1 .0 ∙ p .3, c .before .before .before .before .before .before .before .before .before .byte-at .kept .1 .1 .1 .1 .1 .1 .1 .0 ∙ p .4, c .before .before .before .before .before .before .before .before .before .byte-at .kept .1 .1 .1 .1 .1 .1 .1 .1 .0 ∙ p .5)
 
 byte-at-requires-3 : tie.Need-byte-at-requires-3
-byte-at-requires-3 c κs =
-    let p = c .before .before .before .before .before .before .before .before .before .before .before .before .before .before .before .before .before .before .before .before .before .before .before .before .pre in
-    let byte-at2 = c .before .before .before .before .before .before .before .byte-at2 in
-    let byte-at = c .before .before .before .before .before .before .before .before .before .before .before .before .before .before .before .byte-at in (
-      p .0,
-      byte-at2 .kept .1 .1 .1 .1 .1 .1 .0 ∙ (byte-at .kept .1 .1 .1 .1 .1 .1 .0 ∙ p .1),
-      omega (
-        arith,
-        byte-at2 .kept .1 .1 .1 .1 .1 .1 .1 .0,
-        byte-at .kept .1 .1 .1 .1 .1 .1 .1 .0,
-        p .2,
-      ),
-      omega (arith, p .3),
-    )
-
-wide-requires-3 : tie.Need-wide-requires-3
-wide-requires-3 c κs = search needs
+byte-at-requires-3 c κs = let p = c .before .before .before .before .before .before .before .before .before .before .before .before .before .before .before .before .before .before .before .before .before .before .before .before .before .before .before .before .before .before .pre in (p .0, p .1, omega (arith, p .2), c .before .before .before .before .before .before .before .before .before .byte-at2 .kept .1 .1 .1 .1 .1 .1 .0 ∙ (c .before .before .before .before .before .before .before .before .before .before .before .before .before .before .before .before .before .before .before .byte-at .kept .1 .1 .1 .1 .1 .1 .0 ∙ p .3), c .before .before .before .before .before .before .before .before .before .byte-at2 .kept .1 .1 .1 .1 .1 .1 .1 .0 ∙ (c .before .before .before .before .before .before .before .before .before .before .before .before .before .before .before .before .before .before .before .byte-at .kept .1 .1 .1 .1 .1 .1 .1 .0 ∙ p .4), c .before .before .before .before .before .before .before .before .before .byte-at2 .kept .1 .1 .1 .1 .1 .1 .1 .1 .0 ∙ (c .before .before .before .before .before .before .before .before .before .before .before .before .before .before .before .before .before .before .before .byte-at .kept .1 .1 .1 .1 .1 .1 .1 .1 .0 ∙ p .5))
 
 byte-at-requires-4 : tie.Need-byte-at-requires-4
-byte-at-requires-4 c κs =
-    let p = c .before .before .before .before .before .before .before .before .before .before .before .before .before .before .before .before .before .before .before .before .before .before .before .before .before .before .before .before .before .before .before .before .pre in
-    let byte-at3 = c .before .before .before .before .before .before .before .byte-at3 in
-    let byte-at2 = c .before .before .before .before .before .before .before .before .before .before .before .before .before .before .before .byte-at2 in
-    let byte-at = c .before .before .before .before .before .before .before .before .before .before .before .before .before .before .before .before .before .before .before .before .before .before .before .byte-at in (
-      p .0,
-      byte-at3 .kept .1 .1 .1 .1 .1 .1 .0 ∙ (byte-at2 .kept .1 .1 .1 .1 .1 .1 .0 ∙ (byte-at .kept .1 .1 .1 .1 .1 .1 .0 ∙ p .1)),
-      omega (
-        arith,
-        byte-at3 .kept .1 .1 .1 .1 .1 .1 .1 .0,
-        byte-at2 .kept .1 .1 .1 .1 .1 .1 .1 .0,
-        byte-at .kept .1 .1 .1 .1 .1 .1 .1 .0,
-        p .2,
-      ),
-      omega (arith, p .3),
-    )
-
-wide-requires-4 : tie.Need-wide-requires-4
-wide-requires-4 c κs = search needs
+byte-at-requires-4 c κs = let p = c .before .before .before .before .before .before .before .before .before .before .before .before .before .before .before .before .before .before .before .before .before .before .before .before .before .before .before .before .before .before .before .before .before .before .before .before .before .before .before .before .pre in (p .0, p .1, p .2, c .before .before .before .before .before .before .before .before .before .byte-at3 .kept .1 .1 .1 .1 .1 .1 .0 ∙ (c .before .before .before .before .before .before .before .before .before .before .before .before .before .before .before .before .before .before .before .byte-at2 .kept .1 .1 .1 .1 .1 .1 .0 ∙ (c .before .before .before .before .before .before .before .before .before .before .before .before .before .before .before .before .before .before .before .before .before .before .before .before .before .before .before .before .before .byte-at .kept .1 .1 .1 .1 .1 .1 .0 ∙ p .3)), c .before .before .before .before .before .before .before .before .before .byte-at3 .kept .1 .1 .1 .1 .1 .1 .1 .0 ∙ (c .before .before .before .before .before .before .before .before .before .before .before .before .before .before .before .before .before .before .before .byte-at2 .kept .1 .1 .1 .1 .1 .1 .1 .0 ∙ (c .before .before .before .before .before .before .before .before .before .before .before .before .before .before .before .before .before .before .before .before .before .before .before .before .before .before .before .before .before .byte-at .kept .1 .1 .1 .1 .1 .1 .1 .0 ∙ p .4)), c .before .before .before .before .before .before .before .before .before .byte-at3 .kept .1 .1 .1 .1 .1 .1 .1 .1 .0 ∙ (c .before .before .before .before .before .before .before .before .before .before .before .before .before .before .before .before .before .before .before .byte-at2 .kept .1 .1 .1 .1 .1 .1 .1 .1 .0 ∙ (c .before .before .before .before .before .before .before .before .before .before .before .before .before .before .before .before .before .before .before .before .before .before .before .before .before .before .before .before .before .byte-at .kept .1 .1 .1 .1 .1 .1 .1 .1 .0 ∙ p .5)))
 
 mul-result : tie.Need-mul-result
-mul-result c =
-    let wide = c .before .before .before .before .before .before .before .before .before .before .before .before .before .before .before .before .before .before .before .before .before .before .before .before .wide in
-    omega (arith, wide .ensures)
+mul-result c = omega (arith, c .before .before .before .before .before .before .before .before .before .before .before .before .before .before .before .before .before .before .before .before .before .before .before .before .before .before .before .before .before .before .before .before .before .before .before .before .byte-at .ensures .0)
 
 add-result : tie.Need-add-result
-add-result c =
-    let wide = c .before .before .before .before .before .before .before .before .before .before .before .before .before .before .before .before .before .before .before .before .before .before .before .before .wide in
-    let wide2 = c .before .before .before .before .before .before .before .before .before .before .before .before .before .before .before .before .wide2 in
-    omega (arith, wide .ensures, wide2 .ensures)
+add-result c = omega (arith, c .before .before .before .before .before .before .before .before .before .before .before .before .before .before .before .before .before .before .before .before .before .before .before .before .before .before .before .before .before .before .before .before .before .before .before .before .byte-at .ensures .0, c .before .before .before .before .before .before .before .before .before .before .before .before .before .before .before .before .before .before .before .before .before .before .before .before .before .before .byte-at2 .ensures .0)
 
 mul-result-2 : tie.Need-mul-result-2
-mul-result-2 c =
-    let wide = c .before .before .before .before .before .before .before .before .before .before .before .before .before .before .before .before .before .before .before .before .before .before .before .before .wide in
-    let wide2 = c .before .before .before .before .before .before .before .before .before .before .before .before .before .before .before .before .wide2 in
-    omega (arith, wide .ensures, wide2 .ensures)
+mul-result-2 c = omega (arith, c .before .before .before .before .before .before .before .before .before .before .before .before .before .before .before .before .before .before .before .before .before .before .before .before .before .before .before .before .before .before .before .before .before .before .before .before .byte-at .ensures .0, c .before .before .before .before .before .before .before .before .before .before .before .before .before .before .before .before .before .before .before .before .before .before .before .before .before .before .byte-at2 .ensures .0)
 
 mul-result-3 : tie.Need-mul-result-3
-mul-result-3 c = omega (arith, c .before .before .before .before .before .before .before .before .wide3 .ensures)
+mul-result-3 c = search needs
 
 add-result-2 : tie.Need-add-result-2
-add-result-2 c =
-    let wide3 = c .before .before .before .before .before .before .before .before .wide3 in
-    omega (arith, wide3 .ensures, c .wide4 .ensures)
+add-result-2 c = search needs
 
 add-result-3 : tie.Need-add-result-3
-add-result-3 c =
-    let wide = c .before .before .before .before .before .before .before .before .before .before .before .before .before .before .before .before .before .before .before .before .before .before .before .before .wide in
-    let wide2 = c .before .before .before .before .before .before .before .before .before .before .before .before .before .before .before .before .wide2 in
-    let wide3 = c .before .before .before .before .before .before .before .before .wide3 in
-    omega (arith, wide .ensures, wide2 .ensures, wide3 .ensures, c .wide4 .ensures)
+add-result-3 c = omega (arith, c .before .before .before .before .before .before .before .before .before .before .before .before .before .before .before .before .before .before .before .before .before .before .before .before .before .before .before .before .before .before .before .before .before .before .before .before .byte-at .ensures .0, c .before .before .before .before .before .before .before .before .before .before .before .before .before .before .before .before .before .before .before .before .before .before .before .before .before .before .byte-at2 .ensures .0, c .before .before .before .before .before .before .before .before .before .before .before .before .before .before .before .before .byte-at3 .ensures .0, c .before .before .before .before .before .before .byte-at4 .ensures .0)
 
 same-length : tie.Need-same-length
-same-length c =
-    let byte-at4 = c .before .before .before .before .before .byte-at4 in
-    let byte-at3 = c .before .before .before .before .before .before .before .before .before .before .before .before .before .byte-at3 in
-    let byte-at2 = c .before .before .before .before .before .before .before .before .before .before .before .before .before .before .before .before .before .before .before .before .before .byte-at2 in
-    let byte-at = c .before .before .before .before .before .before .before .before .before .before .before .before .before .before .before .before .before .before .before .before .before .before .before .before .before .before .before .before .before .byte-at in
-    byte-at4 .kept .1 .1 .1 .1 .1 .1 .0 ∙ (byte-at3 .kept .1 .1 .1 .1 .1 .1 .0 ∙ (byte-at2 .kept .1 .1 .1 .1 .1 .1 .0 ∙ byte-at .kept .1 .1 .1 .1 .1 .1 .0))
+same-length c = c .before .before .before .before .before .before .byte-at4 .kept .1 .1 .1 .1 .1 .1 .0 ∙ (c .before .before .before .before .before .before .before .before .before .before .before .before .before .before .before .before .byte-at3 .kept .1 .1 .1 .1 .1 .1 .0 ∙ (c .before .before .before .before .before .before .before .before .before .before .before .before .before .before .before .before .before .before .before .before .before .before .before .before .before .before .byte-at2 .kept .1 .1 .1 .1 .1 .1 .0 ∙ c .before .before .before .before .before .before .before .before .before .before .before .before .before .before .before .before .before .before .before .before .before .before .before .before .before .before .before .before .before .before .before .before .before .before .before .before .byte-at .kept .1 .1 .1 .1 .1 .1 .0))
 
 same-length-2 : tie.Need-same-length-2
-same-length-2 c =
-    let byte-at4 = c .before .before .before .before .before .byte-at4 in
-    let byte-at3 = c .before .before .before .before .before .before .before .before .before .before .before .before .before .byte-at3 in
-    let byte-at2 = c .before .before .before .before .before .before .before .before .before .before .before .before .before .before .before .before .before .before .before .before .before .byte-at2 in
-    let byte-at = c .before .before .before .before .before .before .before .before .before .before .before .before .before .before .before .before .before .before .before .before .before .before .before .before .before .before .before .before .before .byte-at in
-    byte-at4 .kept .1 .1 .1 .1 .1 .1 .1 .0 ∙ (byte-at3 .kept .1 .1 .1 .1 .1 .1 .1 .0 ∙ (byte-at2 .kept .1 .1 .1 .1 .1 .1 .1 .0 ∙ byte-at .kept .1 .1 .1 .1 .1 .1 .1 .0))
+same-length-2 c = c .before .before .before .before .before .before .byte-at4 .kept .1 .1 .1 .1 .1 .1 .1 .0 ∙ (c .before .before .before .before .before .before .before .before .before .before .before .before .before .before .before .before .byte-at3 .kept .1 .1 .1 .1 .1 .1 .1 .0 ∙ (c .before .before .before .before .before .before .before .before .before .before .before .before .before .before .before .before .before .before .before .before .before .before .before .before .before .before .byte-at2 .kept .1 .1 .1 .1 .1 .1 .1 .0 ∙ c .before .before .before .before .before .before .before .before .before .before .before .before .before .before .before .before .before .before .before .before .before .before .before .before .before .before .before .before .before .before .before .before .before .before .before .before .byte-at .kept .1 .1 .1 .1 .1 .1 .1 .0))
+
+same-length-3 : tie.Need-same-length-3
+same-length-3 c = c .before .before .before .before .before .before .byte-at4 .kept .1 .1 .1 .1 .1 .1 .1 .1 .0 ∙ (c .before .before .before .before .before .before .before .before .before .before .before .before .before .before .before .before .byte-at3 .kept .1 .1 .1 .1 .1 .1 .1 .1 .0 ∙ (c .before .before .before .before .before .before .before .before .before .before .before .before .before .before .before .before .before .before .before .before .before .before .before .before .before .before .byte-at2 .kept .1 .1 .1 .1 .1 .1 .1 .1 .0 ∙ c .before .before .before .before .before .before .before .before .before .before .before .before .before .before .before .before .before .before .before .before .before .before .before .before .before .before .before .before .before .before .before .before .before .before .before .before .byte-at .kept .1 .1 .1 .1 .1 .1 .1 .1 .0))
 
 returns : tie.Need-returns
 unfolding fourAt
-returns c =
-    let byte-at = c .before .before .before .before .before .before .before .before .before .before .before .before .before .before .before .before .before .before .before .before .before .before .before .before .before .before .before .before .before .byte-at in
-    let byte-at2 = c .before .before .before .before .before .before .before .before .before .before .before .before .before .before .before .before .before .before .before .before .before .byte-at2 in
-    let byte-at3 = c .before .before .before .before .before .before .before .before .before .before .before .before .before .byte-at3 in
-    let byte-at4 = c .before .before .before .before .before .byte-at4 in
-    let wide = c .before .before .before .before .before .before .before .before .before .before .before .before .before .before .before .before .before .before .before .before .before .before .before .before .wide in
-    let wide2 = c .before .before .before .before .before .before .before .before .before .before .before .before .before .before .before .before .wide2 in
-    let wide3 = c .before .before .before .before .before .before .before .before .wide3 in
-    λ len b M h. omega (
-      arith,
-      byte-at .ensures len b M (omega arith),
-      byte-at2 .ensures len b M (omega arith),
-      byte-at3 .ensures len b M (omega arith),
-      byte-at4 .ensures len b M h,
-      wide .ensures .0,
-      wide2 .ensures .0,
-      wide3 .ensures .0,
-      c .wide4 .ensures .0,
-    )
+returns c = let k = length (c .before .before .before .before .before .before .before .before .before .before .before .before .before .before .before .before .before .before .before .before .before .before .before .before .before .before .before .before .before .before .before .before .before .before .before .before .before .before .before .before .before .before .before .before .before .before .before .args .points .now) in let some = c .before .before .before .before .before .before .before .before .before .before .before .before .before .before .before .before .before .before .before .before .before .before .before .before .before .before .before .before .before .before .before .before .before .before .before .before .before .before .before .before .before .before .before .before .before .before .before .pre .0 .some in λ len b M h. let r0 = c .before .before .before .before .before .before .before .before .before .before .before .before .before .before .before .before .before .before .before .before .before .before .before .before .before .before .before .before .before .before .before .before .before .before .before .before .byte-at .ensures .1 len b M (omega arith) (λ g. absurd (omega (arith, N.zero-mod k, g))) in let r1 = c .before .before .before .before .before .before .before .before .before .before .before .before .before .before .before .before .before .before .before .before .before .before .before .before .before .before .byte-at2 .ensures .1 len b M (omega arith) (λ g. subst (λ (d : ℕ). Row k b d (c .before .before .before .before .before .before .before .before .before .before .before .before .before .before .before .before .before .before .before .before .before .before .before .before .before .before .before .before .before .before .before .before .before .before .before .before .byte-at .last .1 .1 .1 .1 .1 .1 .0)) (sym (same-row 0 k some g)) (r0 .1)) in let r2 = c .before .before .before .before .before .before .before .before .before .before .before .before .before .before .before .before .byte-at3 .ensures .1 len b M (omega arith) (λ g. subst (λ (d : ℕ). Row k b d (c .before .before .before .before .before .before .before .before .before .before .before .before .before .before .before .before .before .before .before .before .before .before .before .before .before .before .byte-at2 .last .1 .1 .1 .1 .1 .1 .0)) (sym (same-row 1 k some g)) (r1 .1)) in let r3 = c .before .before .before .before .before .before .byte-at4 .ensures .1 len b M h (λ g. subst (λ (d : ℕ). Row k b d (c .before .before .before .before .before .before .before .before .before .before .before .before .before .before .before .before .byte-at3 .last .1 .1 .1 .1 .1 .1 .0)) (sym (same-row 2 k some g)) (r2 .1)) in omega (arith, r0 .0, r1 .0, r2 .0, r3 .0)
 
 pub size-in-spec : {M : Type 1} → statement M
 size-in-spec =
     tie.close
     (tie.spec
     byte-at-requires
-    wide-requires
     byte-at-requires-2
-    wide-requires-2
     byte-at-requires-3
-    wide-requires-3
     byte-at-requires-4
-    wide-requires-4
     mul-result
     add-result
     mul-result-2
@@ -149,4 +71,5 @@ size-in-spec =
     add-result-3
     same-length
     same-length-2
+    same-length-3
     returns)

@@ -4,7 +4,7 @@ use mathlib.Core.Path.{_≡_, refl, sym, _∙_, subst}
 use mathlib.Core.List.{List}
 use Prim.Native.Nat.{ℕ, suc, _+_, _-_, _*_, _<_, _≤_}
 use lib.ListN.{length, getD}
-use Rattle.rebuilding.specs.Sums.{weighed}
+use Rattle.summing.specs.Sums.{weighed}
 use Rattle.delivery.specs.Working.{Copied}
 use native.Mathlib.Omega.{arith}
 use Rattle.delivery.proofs.write_column.Statement.{statement}

@@ -7,7 +7,8 @@ use lib.ListN.{length}
 use Rattle.rebuilding.specs.Sums.{Weights}
 use Rattle.octets.proofs.Parts.{cleared}
 use Rattle.rebuilding.proofs.Columns.{weights-start, weights-next}
-use Rattle.delivery.specs.Working.{Made, Copied}
+use Rattle.afresh.specs.Working.{Made}
+use Rattle.delivery.specs.Working.{Copied}
 use Rattle.delivery.proofs.Copying.{copied-none, copied-next, copied-all}
 use native.Mathlib.Omega.{arith}
 use Rattle.delivery.proofs.write_message.Statement.{statement}
@@ -34,7 +35,7 @@ loop-holds c =
       refl,
       w .kept .0 ∙ p .1,
       p .2,
-      weights-start (a .points .now) (a .m .now) (a .ds .now) (w .last .0) (r .product) (w .kept .0 ∙ p .1)
+      weights-start (a .points .now) (a .m .now) (a .ds .now) (w .last .0) (p .7) (w .kept .0 ∙ p .1)
           (λ j h. cleared (length (a .points .now)) (a .ws .now) (w .last .0) (omega (arith, p .1)) (w .ensures) j (omega (arith, w .kept .0, p .1))),
       λ b M. copied-none b (a .size) (length (a .points .now)) (a .out .now) (r .some),
     )
@@ -42,7 +43,7 @@ loop-holds c =
 shared-slice-read-advance : tie.Need-shared-slice-read-advance Inv-loop μ-loop
 shared-slice-read-advance c =
     let p = c .before .before .before .before .before .before .before .before .before .before .before .before .before .before .pre in
-    omega (arith, p .0 .product)
+    omega (arith, p .7)
 
 advance-requires : tie.Need-advance-requires Inv-loop μ-loop
 advance-requires c κs =
@@ -75,7 +76,7 @@ loop-again c =
     let k = length (a .points .now) in
     let z : suc (l .i - 1) ≡ l .i = omega (arith, loop-test .taken) in
     let next = subst (λ (i : ℕ). Weights (a .points .now) (a .m .now) (a .ds .now) i (v .last .1 .1 .1 .0)) (sym z) (weights-next (a .points .now) (a .m .now)
-    (a .ds .now) (l .ws) (v .last .1 .1 .1 .0) (l .i) (p .0 .product) (omega arith) (l .inv .4) (v .ensures)) in (
+    (a .ds .now) (l .ws) (v .last .1 .1 .1 .0) (l .i) (p .7) (omega arith) (l .inv .4) (v .ensures)) in (
       omega arith,
       write-column .kept .1 .1 .1 .1 .1 .1 .1 .0 ∙ l .inv .1,
       v .kept .1 .1 .1 .0 ∙ l .inv .2,

@@ -1,101 +1,65 @@
--- `delivery::write_row` meets its contract. The loop's invariant: q bytes of the row are written.
+-- `delivery::write_row` meets its contract. The loop's invariant: the row's bytes from i on are written.
 -- Assumes nothing.
-use mathlib.Core.Path.{refl, sym, _∙_}
-use native.Mathlib.Nat as N
-use native.Mathlib.Omega.{arith}
-use borrow.Author.Count.{below-more}
-use lib.ListN.{set, length-set}
-use lib.Seq.{getD-set-same, getD-set-other}
-use Rattle.boards.proofs.Within.{room-le}
-use Rattle.rebuilding.proofs.Columns.{inside}
-use mathlib.Core.Path.{_≡_}
+use mathlib.Core.Path.{_≡_, sym, _∙_, subst}
 use mathlib.Core.List.{List}
-use Prim.Native.Nat.{ℕ, _+_, _-_, _*_, _<_, _≤_}
-use lib.ListN.{length, getD}
-use Rattle.delivery.specs.Working.{Made, kept}
+use Prim.Native.Nat.{ℕ, suc, _+_, _-_, _*_, _<_, _≤_}
+use native.Mathlib.Omega.{arith}
+use lib.ListN.{length, getD, length-set}
+use Rattle.octets.proofs.Parts.{cleared}
+use Rattle.rebuilding.specs.Sums.{Weights}
+use Rattle.rebuilding.proofs.Columns.{weights-start, weights-next}
+use Rattle.afresh.specs.Working.{Made}
+use Rattle.delivery.proofs.Lines.{row-byte, row-from}
 use Rattle.delivery.proofs.write_row.Statement.{statement}
 use Rattle.delivery.proofs.write_row.Tie as tie
 
 abbrev Inv-loop : tie.InvT-loop
-Inv-loop area s points m ds c end row₀ ws₀ sum₀ k q₀ row ws sum q = (q ≤ length points) × (length row ≡ length points) × (length ws ≡ length points) ×
-    (length sum ≡ length sum₀) × ((len : ℕ) (b : List ℕ) → Made area s points m ds len b → c < len → (p : ℕ) → p < q → getD row p 0 ≡ kept end b
-    (c * length points + p))
+Inv-loop area s points m ds c row₀ ts₀ es i₀ row ts i = (i ≤ length points) × (length row ≡ length points) × (length ts ≡ length points) × Weights points m es (suc i) ts × ((len : ℕ) (b : List ℕ) → Made area s points m ds len b → c < len → (q : ℕ) → i ≤ q → q < length points → getD row q 0 ≡ getD b (c * length points + q) 0)
 
 abbrev μ-loop : tie.MeasureT-loop
-μ-loop area s points m ds c end row₀ ws₀ sum₀ k q₀ row ws sum q = length points - q
+μ-loop area s points m ds c row₀ ts₀ es i₀ row ts i = i
+
+scale-requires : tie.Need-scale-requires Inv-loop μ-loop
+scale-requires c κs = (c .before .before .before .before .before .before .before .before .pre .0, c .before .before .before .before .before .before .before .before .pre .2, c .before .before .before .before .before .before .before .before .pre .5)
+
+clear-at-requires : tie.Need-clear-at-requires Inv-loop μ-loop
+clear-at-requires c κs = omega (arith, c .before .before .before .before .before .before .before .before .before .before .before .before .pre .4)
 
 loop-holds : tie.Need-loop-holds Inv-loop μ-loop
-loop-holds c =
-    let pre = c .before .before .before .before .before .before .before .pre in
-    (omega arith, pre .3, pre .1, refl, λ len b M h p g. absurd (omega arith))
+loop-holds c = let a = c .before .before .before .before .before .before .before .before .before .before .before .before .before .before .before .args in let p = c .before .before .before .before .before .before .before .before .before .before .before .before .before .before .before .pre in let w = c .before .before .clear-at in (omega arith, p .3, w .kept .0 ∙ p .4, weights-start (a .points .now) (a .m .now) (c .before .before .before .before .before .before .scale .last .1 .1 .1 .1 .1 .0) (w .last .0) (p .1) (w .kept .0 ∙ p .4) (λ j h. cleared (length (a .points .now)) (a .ts .now) (w .last .0) (omega (arith, p .4)) (w .ensures) j (omega (arith, w .kept .0, p .4))), λ len b M h q g l. absurd (omega arith))
 
-mul-kept-at : tie.Need-mul-kept-at Inv-loop μ-loop
-mul-kept-at c =
-    let start = c .before .before .before .before .before .before .before .before .before in
-    let a = start .args in
-    let p = start .pre in
-    let k = length (a .points .now) in
-    let r = p .0 in
-    omega (arith, inside (a .c) k (c .before .loop .q) (a .s) (a .s * k) (p .4) (omega arith) (omega arith), room-le k (a .s) (r .few) (r .short), N.mul-comm k (a .s))
+shared-slice-read-advance : tie.Need-shared-slice-read-advance Inv-loop μ-loop
+shared-slice-read-advance c = omega (arith, c .before .before .before .before .before .before .before .before .before .before .before .before .before .before .before .before .before .before .before .pre .1)
 
-add-kept-at : tie.Need-add-kept-at Inv-loop μ-loop
-add-kept-at c =
-    let start = c .before .before .before .before .before .before .before .before .before in
-    let a = start .args in
-    let p = start .pre in
-    let k = length (a .points .now) in
-    let r = p .0 in
-    omega (arith, inside (a .c) k (c .before .loop .q) (a .s) (a .s * k) (p .4) (omega arith) (omega arith), room-le k (a .s) (r .few) (r .short), N.mul-comm k (a .s))
+advance-requires : tie.Need-advance-requires Inv-loop μ-loop
+advance-requires c κs = (c .before .before .before .before .before .before .before .before .before .before .before .scale .kept .1 .1 .1 .1 .1 .0 ∙ c .before .before .before .before .before .before .before .before .before .before .before .before .before .before .before .before .before .before .before .before .pre .5, c .before .before .before .before .loop .inv .2)
 
-kept-at-requires : tie.Need-kept-at-requires Inv-loop μ-loop
-kept-at-requires c κs =
-    let start = c .before .before .before .before .before .before .before .before .before .before .before in
-    let a = start .args in
-    let p = start .pre in
-    let l = c .before .before .before .loop in
-    let k = length (a .points .now) in
-    (p .0, l .inv .2, omega (arith, l .inv .3, p .2), inside (a .c) k (l .q) (a .s) (a .s * k) (p .4) (omega arith) (omega arith))
+sub-i : tie.Need-sub-i Inv-loop μ-loop
+sub-i c = omega arith
+
+sum-of-requires : tie.Need-sum-of-requires Inv-loop μ-loop
+sum-of-requires c κs = tt
 
 slice-write-row : tie.Need-slice-write-row Inv-loop μ-loop
-slice-write-row c = omega (arith, c .before .before .before .before .before .before .before .before .loop .inv .1)
-
-add-q : tie.Need-add-q Inv-loop μ-loop
-add-q c = omega arith
+slice-write-row c = omega (arith, c .before .before .before .before .before .before .before .before .before .loop .inv .1)
 
 loop-less : tie.Need-loop-less Inv-loop μ-loop
 loop-less c = omega arith
 
 loop-again : tie.Need-loop-again Inv-loop μ-loop
-loop-again c =
-    let kept-at = c .before .before .before .before .kept-at in
-    let a = c .before .before .before .before .before .before .before .before .before .before .before .before .before .before .before .before .args in
-    let l = c .before .before .before .before .before .before .before .before .loop in
-    let k = length (a .points .now) in
-    let x = kept-at .result in (
-      omega arith,
-      simp length-set (l .inv .1),
-      kept-at .kept .1 .1 .1 .1 .1 .1 .1 .0 ∙ l .inv .2,
-      kept-at .kept .1 .1 .1 .1 .1 .1 .1 .1 .0 ∙ l .inv .3,
-      λ len b M h. below-more (λ (p : ℕ). getD (set (l .row) (l .q) x) p 0 ≡ kept (a .end) b (a .c * k + p)) (l .q) (λ p g. getD-set-other (l .row) (l .q) p x 0
-          (λ e. omega arith) ∙ l .inv .4 len b M h p g) (getD-set-same (l .row) (l .q) x 0 (omega (arith, l .inv .1)) ∙ kept-at .ensures len b M (inside (a .c) k
-          (l .q) len (len * k) h (omega arith) (omega arith))),
-    )
+loop-again c = let a = c .before .before .before .before .before .before .before .before .before .before .before .before .before .before .before .before .before .before .before .before .before .before .before .before .before .args in let p = c .before .before .before .before .before .before .before .before .before .before .before .before .before .before .before .before .before .before .before .before .before .before .before .before .before .pre in let l = c .before .before .before .before .before .before .before .before .before .loop in let v = c .before .before .before .before .advance in let t = c .before .before .before .before .before .before .before .before .loop-test .taken in let z : suc (l .i - 1) ≡ l .i = omega (arith, t) in let next = subst (λ (i : ℕ). Weights (a .points .now) (a .m .now) (c .before .before .before .before .before .before .before .before .before .before .before .before .before .before .before .before .scale .last .1 .1 .1 .1 .1 .0) i (v .last .1 .1 .1 .0)) (sym z) (weights-next (a .points .now) (a .m .now) (c .before .before .before .before .before .before .before .before .before .before .before .before .before .before .before .before .scale .last .1 .1 .1 .1 .1 .0) (l .ts) (v .last .1 .1 .1 .0) (l .i) (p .1) (omega arith) (l .inv .3) (v .ensures)) in (omega arith, simp length-set (l .inv .1), v .kept .1 .1 .1 .0 ∙ l .inv .2, next, λ len b M h. row-from (length (a .points .now)) (a .c) (l .i) b (l .row) (c .sum-of .result) t (omega (arith, l .inv .0, l .inv .1)) (l .inv .4 len b M h) (c .sum-of .ensures ∙ row-byte (a .area .now) (a .s) (a .points .now) (a .m .now) (a .ds .now) len b (c .before .before .before .before .before .before .before .before .before .before .before .before .before .before .before .before .scale .last .1 .1 .1 .1 .1 .0) (v .last .1 .1 .1 .0) (a .c) (l .i - 1) (length (v .last .1 .1 .1 .0)) M (c .before .before .before .before .before .before .before .before .before .before .before .before .before .before .before .before .scale .ensures) next h (omega (arith, l .inv .0, t)) (v .kept .1 .1 .1 .0 ∙ l .inv .2)))
 
 same-length : tie.Need-same-length Inv-loop μ-loop
-same-length c =
-    let p = c .before .before .before .before .before .before .before .before .before .pre in
-    c .before .loop .inv .1 ∙ sym (p .3)
+same-length c = c .before .loop .inv .1 ∙ sym (c .before .before .before .before .before .before .before .before .before .before .before .before .before .before .before .before .before .pre .3)
 
 same-length-2 : tie.Need-same-length-2 Inv-loop μ-loop
-same-length-2 c =
-    let p = c .before .before .before .before .before .before .before .before .before .pre in
-    c .before .loop .inv .2 ∙ sym (p .1)
+same-length-2 c = c .before .loop .inv .2 ∙ sym (c .before .before .before .before .before .before .before .before .before .before .before .before .before .before .before .before .before .pre .4)
 
 same-length-3 : tie.Need-same-length-3 Inv-loop μ-loop
-same-length-3 c = c .before .loop .inv .3
+same-length-3 c = c .before .before .before .before .before .before .before .before .scale .kept .1 .1 .1 .1 .1 .0
 
 returns : tie.Need-returns Inv-loop μ-loop
-returns c = λ len b M h q g. c .before .loop .inv .4 len b M h q (omega arith)
+returns c = λ len b M h q g. c .before .loop .inv .4 len b M h q (omega arith) g
 
 pub write-row-spec : {M : Type 1} → statement M
 write-row-spec =
@@ -103,12 +67,14 @@ write-row-spec =
     (tie.spec
     Inv-loop
     μ-loop
+    scale-requires
+    clear-at-requires
     loop-holds
-    mul-kept-at
-    add-kept-at
-    kept-at-requires
+    shared-slice-read-advance
+    advance-requires
+    sub-i
+    sum-of-requires
     slice-write-row
-    add-q
     loop-less
     loop-again
     same-length

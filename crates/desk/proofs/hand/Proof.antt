@@ -1,9 +1,11 @@
+-- `desk::hand` meets its contract.
+-- Assumes nothing.
 use borrow.Author.Tests.{eq-eqb, ne-eqb}
 use native.Mathlib.Omega.{arith}
 use Rattle.octets.specs.Bytes.{pick}
 use Rattle.state.proofs.Facts.{board-number}
 use Rattle.desk.specs.Boards.{recordFor}
-use Rattle.desk.specs.Room.{boardsIn}
+use Rattle.slots.specs.Room.{boardsIn}
 use borrow.Author.Needs.{needs}
 use Rattle.desk.proofs.hand.Statement.{statement}
 use Rattle.desk.proofs.hand.Tie as tie

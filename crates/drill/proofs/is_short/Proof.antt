@@ -1,36 +1,29 @@
+-- `drill::is_short` meets its contract.
+-- Assumes nothing.
 use borrow.Author.Tests.{lt-ltb, le-ltb}
-use lib.ListN.{length}
-use Rattle.drill.specs.Call.{isShort}
 use Rattle.drill.proofs.is_short.Statement.{statement}
 use Rattle.drill.proofs.is_short.Tie as tie
 
 returns : tie.Need-returns
-unfolding isShort
-returns c = rw (lt-ltb (length (c .before .args .message .now)) 64 (c .if1 .taken))
+returns c = rw (lt-ltb (c .before .args .message) 64 (c .if1 .taken))
 
 returns-2 : tie.Need-returns-2
-unfolding isShort
-returns-2 c = rw (le-ltb (length (c .before .before .args .message .now)) 64 (c .before .if1 .left), lt-ltb (length (c .before .before .args .states .now)) 35588 (c .if2 .taken))
+returns-2 c = rw (le-ltb (c .before .before .args .message) 64 (c .before .if1 .left), lt-ltb (c .before .before .args .states) 35588 (c .if2 .taken))
 
 returns-3 : tie.Need-returns-3
-unfolding isShort
-returns-3 c = rw (le-ltb (length (c .before .before .before .args .message .now)) 64 (c .before .before .if1 .left), le-ltb (length (c .before .before .before .args .states .now)) 35588 (c .before .if2 .left), lt-ltb (length (c .before .before .before .args .kept .now)) 14336 (c .if3 .taken))
+returns-3 c = rw (le-ltb (c .before .before .before .args .message) 64 (c .before .before .if1 .left), le-ltb (c .before .before .before .args .states) 35588 (c .before .if2 .left), lt-ltb (c .before .before .before .args .kept) 14336 (c .if3 .taken))
 
 returns-4 : tie.Need-returns-4
-unfolding isShort
-returns-4 c = rw (le-ltb (length (c .before .before .before .before .args .message .now)) 64 (c .before .before .before .if1 .left), le-ltb (length (c .before .before .before .before .args .states .now)) 35588 (c .before .before .if2 .left), le-ltb (length (c .before .before .before .before .args .kept .now)) 14336 (c .before .if3 .left), lt-ltb (length (c .before .before .before .before .args .handed .now)) 16619 (c .if4 .taken))
+returns-4 c = rw (le-ltb (c .before .before .before .before .args .message) 64 (c .before .before .before .if1 .left), le-ltb (c .before .before .before .before .args .states) 35588 (c .before .before .if2 .left), le-ltb (c .before .before .before .before .args .kept) 14336 (c .before .if3 .left), lt-ltb (c .before .before .before .before .args .handed) 16619 (c .if4 .taken))
 
 returns-5 : tie.Need-returns-5
-unfolding isShort
-returns-5 c = rw (le-ltb (length (c .before .before .before .before .before .args .message .now)) 64 (c .before .before .before .before .if1 .left), le-ltb (length (c .before .before .before .before .before .args .states .now)) 35588 (c .before .before .before .if2 .left), le-ltb (length (c .before .before .before .before .before .args .kept .now)) 14336 (c .before .before .if3 .left), le-ltb (length (c .before .before .before .before .before .args .handed .now)) 16619 (c .before .if4 .left), lt-ltb (length (c .before .before .before .before .before .args .out .now)) 16619 (c .if5 .taken))
+returns-5 c = rw (le-ltb (c .before .before .before .before .before .args .message) 64 (c .before .before .before .before .if1 .left), le-ltb (c .before .before .before .before .before .args .states) 35588 (c .before .before .before .if2 .left), le-ltb (c .before .before .before .before .before .args .kept) 14336 (c .before .before .if3 .left), le-ltb (c .before .before .before .before .before .args .handed) 16619 (c .before .if4 .left), lt-ltb (c .before .before .before .before .before .args .out) 16619 (c .if5 .taken))
 
 returns-6 : tie.Need-returns-6
-unfolding isShort
-returns-6 c = rw (le-ltb (length (c .before .before .before .before .before .before .args .message .now)) 64 (c .before .before .before .before .before .if1 .left), le-ltb (length (c .before .before .before .before .before .before .args .states .now)) 35588 (c .before .before .before .before .if2 .left), le-ltb (length (c .before .before .before .before .before .before .args .kept .now)) 14336 (c .before .before .before .if3 .left), le-ltb (length (c .before .before .before .before .before .before .args .handed .now)) 16619 (c .before .before .if4 .left), le-ltb (length (c .before .before .before .before .before .before .args .out .now)) 16619 (c .before .if5 .left), lt-ltb (length (c .before .before .before .before .before .before .args .delivery .now)) 64 (c .if6 .taken))
+returns-6 c = rw (le-ltb (c .before .before .before .before .before .before .args .message) 64 (c .before .before .before .before .before .if1 .left), le-ltb (c .before .before .before .before .before .before .args .states) 35588 (c .before .before .before .before .if2 .left), le-ltb (c .before .before .before .before .before .before .args .kept) 14336 (c .before .before .before .if3 .left), le-ltb (c .before .before .before .before .before .before .args .handed) 16619 (c .before .before .if4 .left), le-ltb (c .before .before .before .before .before .before .args .out) 16619 (c .before .if5 .left), lt-ltb (c .before .before .before .before .before .before .args .delivery) 64 (c .if6 .taken))
 
 returns-7 : tie.Need-returns-7
-unfolding isShort
-returns-7 c = rw (le-ltb (length (c .before .before .before .before .before .before .args .message .now)) 64 (c .before .before .before .before .before .if1 .left), le-ltb (length (c .before .before .before .before .before .before .args .states .now)) 35588 (c .before .before .before .before .if2 .left), le-ltb (length (c .before .before .before .before .before .before .args .kept .now)) 14336 (c .before .before .before .if3 .left), le-ltb (length (c .before .before .before .before .before .before .args .handed .now)) 16619 (c .before .before .if4 .left), le-ltb (length (c .before .before .before .before .before .before .args .out .now)) 16619 (c .before .if5 .left), le-ltb (length (c .before .before .before .before .before .before .args .delivery .now)) 64 (c .if6 .left))
+returns-7 c = rw (le-ltb (c .before .before .before .before .before .before .args .message) 64 (c .before .before .before .before .before .if1 .left), le-ltb (c .before .before .before .before .before .before .args .states) 35588 (c .before .before .before .before .if2 .left), le-ltb (c .before .before .before .before .before .before .args .kept) 14336 (c .before .before .before .if3 .left), le-ltb (c .before .before .before .before .before .before .args .handed) 16619 (c .before .before .if4 .left), le-ltb (c .before .before .before .before .before .before .args .out) 16619 (c .before .if5 .left), le-ltb (c .before .before .before .before .before .before .args .delivery) 64 (c .if6 .left))
 
 pub is-short-spec : {M : Type 1} → statement M
 is-short-spec =

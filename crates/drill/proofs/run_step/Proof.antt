@@ -1,7 +1,10 @@
+-- `drill::run_step` meets its contract.
+-- Assumes nothing.
 use native.Mathlib.Omega.{arith}
 use Rattle.script.specs.Lines.{rightStep}
 use Rattle.words.proofs.Finding.{upto-part}
-use Rattle.drill.proofs.Nexts.{right-line, handing, step-made}
+use Rattle.opening.proofs.Nexts.{right-line}
+use Rattle.drill.proofs.Nexts.{handing, step-made}
 use borrow.Author.Needs.{needs}
 use Rattle.drill.proofs.run_step.Statement.{statement}
 use Rattle.drill.proofs.run_step.Tie as tie

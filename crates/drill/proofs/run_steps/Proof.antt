@@ -1,8 +1,10 @@
+-- `drill::run_steps` meets its contract.
+-- Assumes nothing.
 use Prim.Native.Nat.{_+_, _-_}
 use mathlib.Core.Path.{sym, _∙_}
 use native.Mathlib.Omega.{arith}
 use borrow.Author.Tests.{not-true, not-false}
-use Rattle.desk.specs.Room.{boardsIn}
+use Rattle.slots.specs.Room.{boardsIn}
 use Rattle.drill.proofs.Goings.{Run, run-start, run-bad, run-more, run-over, run-done, room-kept}
 use Rattle.drill.proofs.run_steps.Statement.{statement}
 use Rattle.drill.proofs.run_steps.Tie as tie

@@ -1,72 +1,111 @@
--- `encoding::encode_rows` meets its contract. The loop's invariant: the columns from m on are folded in.
+-- `encoding::encode_rows` meets its contract. The loop's invariant: m columns are summed up, and each board's power is the m-th.
 -- Assumes nothing.
-use mathlib.Core.Path.{_≡_, refl, _∙_, subst}
-use Prim.Native.Nat.{ℕ, _-_, _≤_}
+use mathlib.Core.Path.{refl, _≡_, _∙_, subst}
+use Prim.Native.Nat.{suc, ℕ, _+_, _-_, _≤_}
 use native.Mathlib.Omega.{arith}
-use lib.ListN.{length}
-use Rattle.encoding.proofs.Patches.{Partial, partial-start, partial-next, partial-end}
+use lib.ListN.{length, getD}
+use Rattle.code.specs.Code.{fragmentByte}
+use Rattle.code.specs.Block.{block}
+use Rattle.encoding.proofs.Patches.{patch-then}
+use Rattle.encoding.proofs.Columns.{Summed, summed-first, summed-next, summed-all}
 use Rattle.encoding.proofs.encode_rows.Statement.{statement}
 use Rattle.encoding.proofs.encode_rows.Tie as tie
 
 abbrev Inv-loop : tie.InvT-loop
-Inv-loop message boards k s c n area₀ column₀ go₀ m₀ area column go m = (m ≤ k) × (go ≤ 1) × (length area ≡ length area₀) × (length column ≡ length column₀) × Partial k message boards s c n area₀ m go area
+Inv-loop message k first count s c n area₀ at column₀ powers₀ m₀ area column powers m = (m ≤ k) × (length area ≡ length area₀) × (length column ≡ length column₀) × (length powers ≡ length powers₀) × Summed k message first count at s c n area₀ m powers area
 
 abbrev μ-loop : tie.MeasureT-loop
-μ-loop message boards k s c n area₀ column₀ go₀ m₀ area column go m = m
+μ-loop message k first count s c n area₀ at column₀ powers₀ m₀ area column powers m = k - m
+
+gather-requires : tie.Need-gather-requires Inv-loop μ-loop
+gather-requires c κs = let p = c .before .before .before .before .before .pre in (p .0, p .1, p .2, p .6, p .7, p .8)
+
+lay-column-requires : tie.Need-lay-column-requires Inv-loop μ-loop
+lay-column-requires c κs =
+    let p = c .before .before .before .before .before .before .before .before .before .before .pre in
+    (p .4, p .5, omega (arith, p .8, c .before .before .before .before .gather .kept .1 .1 .1 .1 .1 .0))
+
+start-powers-requires : tie.Need-start-powers-requires Inv-loop μ-loop
+start-powers-requires c κs =
+    let p = c .before .before .before .before .before .before .before .before .before .before .before .before .before .before .pre in
+    (p .3, p .9)
 
 loop-holds : tie.Need-loop-holds Inv-loop μ-loop
 loop-holds c =
-    let s = c .before .before .before in
-    let a = s .args in
-    (omega arith, omega arith, refl, refl, partial-start (a .k) (s .pre .1) (a .message .now) (a .boards) (a .s) (a .c) (a .n) (s .pre .7) (a .area .now))
+    let a = c .before .before .before .before .before .before .before .before .before .before .before .before .before .before .before .before .before .args in
+    let p = c .before .before .before .before .before .before .before .before .before .before .before .before .before .before .before .before .before .pre in (
+      omega (arith, p .1),
+      refl,
+      refl,
+      refl,
+      summed-first (a .k) (p .1) (a .message .now) (a .first) (a .count) (a .at) (a .s) (a .c) (a .n) (p .6) (a .area .now) (c .before .before .before .before .before .before .before .before .before .before .before .gather .last .1 .1 .1 .1 .1 .0) (c .before .before .start-powers .last .0) (c .before .before .before .before .before .before .lay-column .last .0) (p .3) (c .before .before .before .before .before .before .before .before .before .before .before .gather .ensures) (c .before .before .before .before .before .before .lay-column .ensures) (c .before .before .start-powers .ensures),
+    )
 
-sub-m : tie.Need-sub-m Inv-loop μ-loop
-sub-m c = omega arith
+gather-requires-2 : tie.Need-gather-requires-2 Inv-loop μ-loop
+gather-requires-2 c κs =
+    let p = c .before .before .before .before .before .before .before .before .before .before .before .before .before .before .before .before .before .before .before .before .pre in
+    let l = c .before .before .loop in (
+      p .0,
+      omega arith,
+      p .2,
+      p .6,
+      p .7,
+      omega (arith, p .8, l .inv .2, c .before .before .before .before .before .before .before .before .before .before .before .before .before .before .gather .kept .1 .1 .1 .1 .1 .0),
+    )
 
-gather-requires : tie.Need-gather-requires Inv-loop μ-loop
-gather-requires c κs =
-    let s = c .before .before .before .before .before .before in
-    let l = c .before .before .loop in
-    (s .pre .0, omega arith, s .pre .2, omega (arith, s .pre .4, s .pre .6), s .pre .9, omega (arith, s .pre .8, l .inv .3))
+add-column-requires : tie.Need-add-column-requires Inv-loop μ-loop
+add-column-requires c κs =
+    let p = c .before .before .before .before .before .before .before .before .before .before .before .before .before .before .before .before .before .before .before .before .before .before .before .before .before .before .pre in
+    let l = c .before .before .before .before .before .before .before .before .loop in (
+      p .4,
+      omega (arith, p .5, l .inv .1, c .before .before .before .before .before .before .before .before .before .before .before .before .before .before .before .lay-column .kept .0),
+      omega (arith, p .9, l .inv .3, c .before .before .before .before .before .before .before .before .before .before .before .start-powers .kept .0),
+      omega (arith, p .8, l .inv .2, c .before .before .before .before .before .before .before .before .before .before .before .before .before .before .before .before .before .before .before .before .gather .kept .1 .1 .1 .1 .1 .0, c .before .before .before .before .before .gather2 .kept .1 .1 .1 .1 .1 .0),
+    )
 
-fold-all-requires : tie.Need-fold-all-requires Inv-loop μ-loop
-fold-all-requires c κs =
-    let s = c .before .before .before .before .before .before .before .before .before .before .before in
-    let l = c .before .before .before .before .before .before .before .loop in
-    (s .pre .3, s .pre .4, omega (arith, s .pre .5, l .inv .2), s .pre .6, l .inv .1, omega (arith, s .pre .8, l .inv .3, c .before .before .before .before .gather .kept .1 .1 .1 .1 .1 .0))
+raise-powers-requires : tie.Need-raise-powers-requires Inv-loop μ-loop
+raise-powers-requires c κs =
+    let p = c .before .before .before .before .before .before .before .before .before .before .before .before .before .before .before .before .before .before .before .before .before .before .before .before .before .before .before .before .before .before .before .before .pre in
+    let l = c .before .before .before .before .before .before .before .before .before .before .before .before .before .before .loop in (
+      p .3,
+      omega (arith, p .9, l .inv .3, c .before .before .before .before .before .before .before .before .before .before .before .before .before .before .before .before .before .start-powers .kept .0),
+    )
+
+add-m : tie.Need-add-m Inv-loop μ-loop
+add-m c = omega (arith, c .before .before .before .before .before .before .before .before .before .before .before .before .before .before .before .before .loop-test .taken, c .before .before .before .before .before .before .before .before .before .before .before .before .before .before .before .before .before .before .before .before .before .before .before .before .before .before .before .before .before .before .before .before .before .before .before .pre .2)
 
 loop-less : tie.Need-loop-less Inv-loop μ-loop
-loop-less c = omega arith
+loop-less c = omega (arith, c .before .before .before .before .before .before .before .before .before .before .before .before .before .before .before .before .loop-test .taken)
 
 loop-again : tie.Need-loop-again Inv-loop μ-loop
 loop-again c =
-    let s = c .before .before .before .before .before .before .before .before .before .before .before .before .before .before in
-    let a = s .args in
-    let l = c .before .before .before .before .before .before .before .before .before .before .loop in
-    let g = c .before .before .before .before .before .before .before .gather in
-    let f = c .before .before .fold-all in (
-      omega arith,
-      omega arith,
-      f .kept .0 ∙ l .inv .2,
-      g .kept .1 .1 .1 .1 .1 .0 ∙ l .inv .3,
-      partial-next (a .k) (s .pre .1) (a .message .now) (a .boards) (a .s) (a .c) (a .n) (s .pre .7) (a .area .now) (l .m) (l .go) (l .area) (f .last .0)
-          (g .last .1 .1 .1 .1 .1 .0) (c .before .before .before .before .before .before .before .before .before .loop-test .taken) (l .inv .0) (l .inv .4) (g .ensures) (f .ensures),
+    let a = c .before .before .before .before .before .before .before .before .before .before .before .before .before .before .before .before .before .before .before .before .before .before .before .before .before .before .before .before .before .before .before .before .before .before .before .args in
+    let p = c .before .before .before .before .before .before .before .before .before .before .before .before .before .before .before .before .before .before .before .before .before .before .before .before .before .before .before .before .before .before .before .before .before .before .before .pre in
+    let l = c .before .before .before .before .before .before .before .before .before .before .before .before .before .before .before .before .before .loop in (
+      omega (arith, c .before .before .before .before .before .before .before .before .before .before .before .before .before .before .before .before .loop-test .taken),
+      c .before .before .before .before .before .before .before .before .add-column .kept .0 ∙ l .inv .1,
+      c .before .before .before .before .before .before .before .before .add-column .kept .1 .1 .1 .1 .1 .1 .0 ∙ c .before .before .before .before .before .before .before .before .before .before .before .before .before .before .gather2 .kept .1 .1 .1 .1 .1 .0 ∙ l .inv .2,
+      c .before .before .raise-powers .kept .0 ∙ l .inv .3,
+      summed-next (a .k) (p .1) (a .message .now) (a .first) (a .count) (a .at) (a .s) (a .c) (a .n) (p .6) (c .before .before .before .before .before .before .before .before .before .before .before .before .before .before .before .before .before .before .before .before .before .before .before .before .lay-column .last .0) (l .m) (c .before .before .before .before .before .before .before .before .before .before .before .before .before .before .gather2 .last .1 .1 .1 .1 .1 .0) (l .powers) (c .before .before .raise-powers .last .0) (l .area) (c .before .before .before .before .before .before .before .before .add-column .last .0) (omega (arith, c .before .before .before .before .before .before .before .before .before .before .before .before .before .before .before .before .loop-test .taken)) (l .inv .4) (c .before .before .before .before .before .before .before .before .before .before .before .before .before .before .gather2 .ensures) (λ d. omega (arith, c .before .before .before .before .before .before .before .before .before .before .before .before .slice-known7 .given d)) (c .before .before .before .before .before .before .before .before .add-column .ensures) (c .before .before .raise-powers .ensures),
     )
 
 same-length : tie.Need-same-length Inv-loop μ-loop
-same-length c = c .before .loop .inv .2
+same-length c = c .before .loop .inv .1 ∙ c .before .before .before .before .before .before .before .before .lay-column .kept .0
 
 same-length-2 : tie.Need-same-length-2 Inv-loop μ-loop
-same-length-2 c = c .before .loop .inv .3
+same-length-2 c = c .before .loop .inv .2 ∙ c .before .before .before .before .before .before .before .before .before .before .before .before .before .gather .kept .1 .1 .1 .1 .1 .0
+
+same-length-3 : tie.Need-same-length-3 Inv-loop μ-loop
+same-length-3 c = c .before .loop .inv .3 ∙ c .before .before .before .before .start-powers .kept .0
 
 returns : tie.Need-returns Inv-loop μ-loop
 returns c =
-    let s = c .before .before .before .before .before in
-    let a = s .args in
+    let a = c .before .before .before .before .before .before .before .before .before .before .before .before .before .before .before .before .before .before .before .args in
+    let p = c .before .before .before .before .before .before .before .before .before .before .before .before .before .before .before .before .before .before .before .pre in
     let l = c .before .loop in
-    let z : l .m ≡ 0 = omega arith in
-    partial-end (a .k) (s .pre .1) (a .message .now) (a .boards) (a .s) (a .c) (a .n) (s .pre .7) (a .area .now) (l .go) (l .area)
-    (subst (λ (m : ℕ). Partial (a .k) (a .message .now) (a .boards) (a .s) (a .c) (a .n) (a .area .now) m (l .go) (l .area)) z (l .inv .4))
+    let laid = c .before .before .before .before .before .before .before .before .lay-column .last .0 in
+    let e : l .m ≡ a .k = omega arith in
+    patch-then (a .at) (a .count) (a .s) (a .n) (λ i d. getD (c .before .before .before .before .before .before .before .before .before .before .before .before .before .gather .last .1 .1 .1 .1 .1 .0) d 0) (a .area .now) (λ i d. fragmentByte (a .k) (block (a .k) (a .message .now)) (suc (a .first + i)) (a .c + d)) laid (l .area) (c .before .before .before .before .before .before .before .before .lay-column .ensures) (summed-all (a .k) (p .1) (a .message .now) (a .first) (a .count) (a .at) (a .s) (a .c) (a .n) (p .6) laid (l .powers) (l .area) (subst (λ (m : ℕ). Summed (a .k) (a .message .now) (a .first) (a .count) (a .at) (a .s) (a .c) (a .n) laid m (l .powers) (l .area)) e (l .inv .4)))
 
 pub encode-rows-spec : {M : Type 1} → statement M
 encode-rows-spec =
@@ -74,12 +113,17 @@ encode-rows-spec =
     (tie.spec
     Inv-loop
     μ-loop
-    loop-holds
-    sub-m
     gather-requires
-    fold-all-requires
+    lay-column-requires
+    start-powers-requires
+    loop-holds
+    gather-requires-2
+    add-column-requires
+    raise-powers-requires
+    add-m
     loop-less
     loop-again
     same-length
     same-length-2
+    same-length-3
     returns)

@@ -51,7 +51,7 @@ product-requires-13 c κs = search needs
 returns : tie.Need-returns
 returns c =
     let e : c .product13 .result ≡ power-254 (c .before .before .before .before .before .before .before .before .before .before .before .before .before .args .a) = cc in
-    ap (mul _) e ∙ is-inverse _ (omega arith) (omega arith)
+    λ pos. ap (mul _) e ∙ is-inverse _ pos (omega arith)
 
 pub inverse-spec : {M : Type 1} → statement M
 inverse-spec =

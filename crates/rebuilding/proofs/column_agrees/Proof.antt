@@ -1,14 +1,13 @@
 -- `rebuilding::column_agrees` meets its contract. The loop's invariant: c bytes agree.
 -- Assumes nothing.
 use mathlib.Core.Path.{_≡_, refl, sym, _∙_, subst}
-use mathlib.Core.Logic.{_≢_}
 use Prim.Native.Nat.{ℕ, _+_, _-_, _<_, _≤_}
 use native.Mathlib.Omega.{arith}
 use lib.ListN.{length}
 use Rattle.code.proofs.Lists.{false≢true}
 use Rattle.rebuilding.specs.Sums.{Sums}
-use Rattle.octets.proofs.Sames.{same-places, places-same}
-use Rattle.rebuilding.proofs.Columns.{room, sums-next, sums-back}
+use Rattle.summing.proofs.Weighing.{room}
+use Rattle.rebuilding.proofs.Columns.{sums-next, sums-back}
 use Rattle.rebuilding.proofs.column_agrees.Statement.{statement}
 use Rattle.rebuilding.proofs.column_agrees.Tie as tie
 
@@ -39,8 +38,8 @@ place-requires c κs =
     let s = c .before .before .before .before .before .before .before .before .before .before .before .before in
     (s .pre .4, s .pre .5, s .pre .1, omega (arith, c .before .before .before .before .before .before .before .loop .inv .0, s .pre .2))
 
-same-at-requires : tie.Need-same-at-requires Inv-loop μ-loop
-same-at-requires c κs =
+same-bytes-requires : tie.Need-same-bytes-requires Inv-loop μ-loop
+same-bytes-requires c κs =
     let s = c .before .before .before .before .before .before .before .before .before .before .before .before .before in
     let a = s .args in
     let l = c .before .before .before .before .before .before .before .before .loop in
@@ -67,8 +66,7 @@ loop-again c =
       g .kept .1 .1 .1 .1 .1 .1 .0 ∙ l .inv .1,
       sums-next (a .area .now) (a .s) (a .points .now) (a .ws .now) (a .z) (l .c) (c .before .before .before .before .before .before .before .before .least .result) (g .last .1 .1 .1 .1 .1 .1 .0) (c .before .before .place .result)
           (c .before .before .place .ensures) (g .ensures)
-          (same-places (g .last .1 .1 .1 .1 .1 .1 .0) (a .area .now) (c .before .before .place .result) (c .before .before .before .before .before .before .before .before .least .result)
-          (sym (c .before .same-at .ensures) ∙ c .if1 .taken)) (l .inv .2),
+          (c .before .same-bytes .ensures .0 (c .if1 .taken)) (l .inv .2),
     )
 
 same-length : tie.Need-same-length Inv-loop μ-loop
@@ -76,17 +74,13 @@ same-length c = c .before .before .before .before .before .before .combine .kept
 
 returns : tie.Need-returns Inv-loop μ-loop
 returns c =
-    let s = c .before .before .before .before .before .before .before .before .before .before .before .before .before .before .before in
-    let a = s .args in
+    let a = c .before .before .before .before .before .before .before .before .before .before .before .before .before .before .before .args in
     let l = c .before .before .before .before .before .before .before .before .before .before .loop in
     let g = c .before .before .before .before .before .before .combine in
     let n = c .before .before .before .before .before .before .before .before .least in
-    let p = c .before .before .place in
-    let h = room (a .z) (a .s) (l .c) (n .result) (length (a .area .now)) (s .pre .4) (omega (arith, n .ensures .0, s .pre .2)) (s .pre .6) in (
+    let p = c .before .before .place in (
       (λ e. absurd (false≢true e)),
-      λ e all. false≢true (sym (c .if1 .left) ∙ c .before .same-at .ensures
-          ∙ places-same (g .last .1 .1 .1 .1 .1 .1 .0) (a .area .now) (p .result) (n .result) (omega (arith, n .ensures .1, g .kept .1 .1 .1 .1 .1 .1 .0))
-          (subst (λ (f : ℕ). f + n .result ≤ length (a .area .now)) (sym (p .ensures)) h)
+      λ e all. false≢true (sym (c .if1 .left) ∙ c .before .same-bytes .ensures .1
           (sums-back (a .area .now) (a .s) (a .points .now) (a .ws .now) (a .z) (l .c) (n .result) (g .last .1 .1 .1 .1 .1 .1 .0) (p .result)
           (p .ensures) (g .ensures) (λ d h. all d (omega (arith, n .ensures .0))))),
     )
@@ -108,7 +102,7 @@ column-agrees-spec =
     least-requires
     combine-requires
     place-requires
-    same-at-requires
+    same-bytes-requires
     add-c
     loop-less
     loop-again

@@ -2,23 +2,25 @@
 -- Assumes nothing.
 use mathlib.Core.Path.{_≡_, sym, _∙_, subst}
 use mathlib.Core.List.{[], _∷_, _++_}
-use Prim.Native.Nat.{ℕ, suc, _+_, _-_, _≤_}
+use Prim.Native.Nat.{ℕ, suc, _+_, _-_, _<_, _≤_}
 use native.Mathlib.Omega.{arith}
 use lib.ListN.{length, getD}
 use Rattle.rebuilding.proofs.Newton.{Expanded, expanded-next}
+use Rattle.code.specs.Code.{value}
 use Rattle.rebuilding.specs.Fits.{Attached}
-use Rattle.rebuilding.proofs.Weights.{newton-zeros, longer, point, master-start, master-top}
+use Rattle.rebuilding.specs.Sums.{differences}
+use Rattle.rebuilding.proofs.Weights.{differences-root, newton-differences, longer, point, master-start, master-top}
 use Rattle.rebuilding.proofs.master.Statement.{statement}
 use Rattle.rebuilding.proofs.master.Tie as tie
 
 abbrev Inv-loop : tie.InvT-loop
-Inv-loop points row₀ j₀ row j = (j ≤ length points) × (getD row (length points) 0 ≡ 1) × Expanded (points ++ 0 ∷ []) row₀ row j
+Inv-loop points row₀ j₀ row j = (j ≤ length points) × (getD row (length points) 0 ≡ 1) × Expanded (points ++ 0 ∷ []) row₀ row j × ((i : ℕ) → getD row i 0 < 256)
 
 abbrev μ-loop : tie.MeasureT-loop
 μ-loop points row₀ j₀ row j = j
 
 loop-holds : tie.Need-loop-holds Inv-loop μ-loop
-loop-holds c = (omega arith, c .before .before .pre .2, master-start (c .before .before .args .points .now) (c .before .before .args .row .now) (c .before .before .pre .0))
+loop-holds c = (omega arith, c .before .before .pre .2, master-start (c .before .before .args .points .now) (c .before .before .args .row .now) (c .before .before .pre .0), λ i. omega (arith, c .slice-known .given i))
 
 sub-j : tie.Need-sub-j Inv-loop μ-loop
 sub-j c = omega arith
@@ -46,6 +48,7 @@ loop-again c =
       expanded-next (a .points .now ++ 0 ∷ []) (a .row .now) (l .row) (d .last .1 .0) (l .j - 1) (longer (a .points .now) (a .row .now) (s .pre .0)) e k
           (omega (arith, l .inv .2 .size, s .pre .0))
           (subst (λ (x : ℕ). Attached x (l .j - 1) (l .row) (d .last .1 .0)) (sym (point (a .points .now) (a .row .now) (s .pre .0) (l .j - 1) (omega arith))) (d .ensures)),
+      λ i. omega (arith, c .slice-known2 .given i),
     )
 
 same-length : tie.Need-same-length Inv-loop μ-loop
@@ -58,9 +61,12 @@ returns c =
     let l = c .before .loop in
     let z : l .j ≡ 0 = omega arith in
     let e = subst (Expanded (a .points .now ++ 0 ∷ []) (a .row .now) (l .row)) z (l .inv .2) in
+    let all : (z : ℕ) → value (l .row) z ≡ differences (a .points .now) z = λ z. e .same z ∙ newton-differences (a .points .now) (a .row .now) z (s .pre .0) (s .pre .1) (s .pre .2) in
     record {
       size = l .inv .2 .size ∙ s .pre .0;
-      root = λ i h. e .same (getD (a .points .now) i 0) ∙ newton-zeros (a .points .now) (a .row .now) i (s .pre .0) (s .pre .1) h;
+      small = l .inv .3;
+      all = all;
+      root = λ i h. all (getD (a .points .now) i 0) ∙ differences-root (a .points .now) i h;
       top = l .inv .1;
     }
 

@@ -26,7 +26,7 @@ shared-slice-read-z c = omega arith
 weights-at-requires : tie.Need-weights-at-requires Inv-loop μ-loop
 weights-at-requires c κs =
     let s = c .before .before .before .before .before .before .before .before .before .before .before in
-    (omega (arith, s .pre .5 .size), s .pre .6, c .before .before .before .loop .inv .2 ∙ s .pre .8)
+    (s .pre .6, c .before .before .before .loop .inv .2 ∙ s .pre .8)
 
 column-agrees-requires : tie.Need-column-agrees-requires Inv-loop μ-loop
 column-agrees-requires c κs =
@@ -37,7 +37,7 @@ column-agrees-requires c κs =
       first-boards (length (a .area .now)) (a .s) (a .points .now) (a .marked .now) (s .pre .4) (s .pre .0),
       s .pre .1,
       s .pre .2,
-      c .before .before .before .before .weights-at .kept .1 .1 .1 .1 .0 ∙ l .inv .2 ∙ s .pre .8,
+      c .before .before .before .before .weights-at .kept .1 .1 .1 .0 ∙ l .inv .2 ∙ s .pre .8,
       p .0,
       p .1,
       p .2,
@@ -60,16 +60,16 @@ loop-again c =
     let t = c .before .before .before .before .before .before .before .before .before .before .before .loop-test .taken in (
       omega arith,
       omega arith,
-      w .kept .1 .1 .1 .1 .0 ∙ l .inv .2,
+      w .kept .1 .1 .1 .0 ∙ l .inv .2,
       g .kept .1 .1 .1 .1 .1 .1 .0 ∙ l .inv .3,
       good-next (a .area .now) (a .s) (a .points .now) (a .m .now) (a .ds .now) (s .pre .5) (s .pre .3)
           (λ i. omega (arith, c .before .before .before .before .before .before .before .before .before .before .before .before .before .before .before .before .before .before .shared-slice-known2 .given i)) (λ i. omega (arith, c .before .before .before .before .before .before .before .before .before .before .before .before .before .before .before .before .shared-slice-known4 .given i)) (s .pre .7)
           (λ i. omega (arith, c .before .before .before .before .before .before .before .before .before .before .before .before .before .before .before .before .before .before .before .shared-slice-known .given i)) (a .marked .now) (a .count) (s .pre .4)
-          (l .i) (w .last .1 .1 .1 .1 .0) (w .ensures (s .pre .5)) (l .inv .4) (g .ensures .0 (c .if1 .taken)),
+          (l .i) (w .last .1 .1 .1 .0) (w .ensures (a .m .now) (s .pre .5) (s .pre .7)) (l .inv .4) (g .ensures .0 (c .if1 .taken)),
     )
 
 same-length : tie.Need-same-length Inv-loop μ-loop
-same-length c = c .before .before .before .before .before .before .before .before .weights-at .kept .1 .1 .1 .1 .0 ∙ c .before .before .before .before .before .before .before .before .before .before .before .before .loop .inv .2
+same-length c = c .before .before .before .before .before .before .before .before .weights-at .kept .1 .1 .1 .0 ∙ c .before .before .before .before .before .before .before .before .before .before .before .before .loop .inv .2
 
 same-length-2 : tie.Need-same-length-2 Inv-loop μ-loop
 same-length-2 c = c .before .before .before .column-agrees .kept .1 .1 .1 .1 .1 .1 .0 ∙ c .before .before .before .before .before .before .before .before .before .before .before .before .loop .inv .3
@@ -85,8 +85,8 @@ returns c =
       λ e. bad (a .area .now) (a .s) (a .points .now) (a .m .now) (a .ds .now) (s .pre .5) (s .pre .3)
           (λ i. omega (arith, c .before .before .before .before .before .before .before .before .before .before .before .before .before .before .before .before .before .before .shared-slice-known2 .given i)) (λ i. omega (arith, c .before .before .before .before .before .before .before .before .before .before .before .before .before .before .before .before .shared-slice-known4 .given i)) (s .pre .7)
           (λ i. omega (arith, c .before .before .before .before .before .before .before .before .before .before .before .before .before .before .before .before .before .before .before .shared-slice-known .given i)) (a .marked .now) (a .count) (s .pre .4)
-          (l .i) (w .last .1 .1 .1 .1 .0)
-          (omega (arith, l .inv .0, c .before .before .before .before .before .before .before .before .before .before .before .loop-test .taken)) (w .ensures (s .pre .5)) (g .ensures .1 (c .if1 .left)),
+          (l .i) (w .last .1 .1 .1 .0)
+          (omega (arith, l .inv .0, c .before .before .before .before .before .before .before .before .before .before .before .loop-test .taken)) (w .ensures (a .m .now) (s .pre .5) (s .pre .7)) (g .ensures .1 (c .if1 .left)),
     )
 
 same-length-3 : tie.Need-same-length-3 Inv-loop μ-loop

@@ -8,7 +8,7 @@ use native.Mathlib.Omega.{arith}
 use lib.ListN.{length, take}
 use lib.Seq.{length-take-le}
 use Rattle.code.specs.Code.{Apart}
-use Rattle.rebuilding.specs.Fits.{Boards}
+use Rattle.summing.specs.Sums.{Boards}
 use Rattle.rebuilding.specs.Sums.{Remade}
 use Rattle.rebuilding.proofs.Marks.{apart-marks}
 use Rattle.rebuilding.proofs.Agree.{boards, enough-marks}

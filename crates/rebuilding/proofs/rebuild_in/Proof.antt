@@ -1,3 +1,5 @@
+-- `rebuilding::rebuild_in` meets its contract.
+-- Assumes nothing.
 use mathlib.Core.Path.{refl, sym, _∙_}
 use native.Mathlib.Omega.{arith}
 use lib.ListN.{length}
@@ -12,22 +14,22 @@ expand-requires : tie.Need-expand-requires
 expand-requires c κs = c .before .before .before .before .before .before .before .before .before .pre .7
 
 scales-requires : tie.Need-scales-requires
-scales-requires c κs = (c .before .before .before .before .expand .ensures, c .before .before .before .before .before .before .before .before .before .before .before .before .before .before .pre .3, c .before .before .before .before .before .before .before .before .before .before .before .before .before .before .pre .8)
+scales-requires c κs = (c .before .before .before .before .before .expand .ensures, c .before .before .before .before .before .before .before .before .before .before .before .before .before .before .before .pre .3, c .before .before .before .before .before .before .before .before .before .before .before .before .before .before .before .pre .9, c .before .before .before .before .before .before .before .before .before .before .before .before .before .before .before .pre .8)
 
 others-agree-requires : tie.Need-others-agree-requires
-others-agree-requires c κs = let p = c .before .before .before .before .before .before .before .before .before .before .before .before .before .before .before .before .before .before .before .before .before .pre in let d = c .before .before .before .before .before .before .scales in (p .0, p .1, p .2, p .3, p .4, c .before .before .before .before .before .before .before .before .before .before .before .expand .ensures, d .kept .1 .1 .0 ∙ p .8, d .ensures, p .9, p .10)
+others-agree-requires c κs = let p = c .before .before .before .before .before .before .before .before .before .before .before .before .before .before .before .before .before .before .before .before .before .before .before .before .pre in let d = c .before .before .before .before .before .before .before .before .scales in (p .0, p .1, p .2, p .3, p .4, c .before .before .before .before .before .before .before .before .before .before .before .before .before .before .expand .ensures, d .kept .1 .1 .1 .0 ∙ p .8, d .ensures, d .kept .1 .1 .0 ∙ p .9, p .10)
 
 clear-at-requires : tie.Need-clear-at-requires
 clear-at-requires c κs = search needs
 
 write-columns-requires : tie.Need-write-columns-requires
-write-columns-requires c κs = let a = c .before .before .before .before .before .before .before .before .before .before .before .before .before .before .before .before .before .before .before .before .before .before .before .before .before .before .before .before .before .before .before .before .before .before .before .before .args in let p = c .before .before .before .before .before .before .before .before .before .before .before .before .before .before .before .before .before .before .before .before .before .before .before .before .before .before .before .before .before .before .before .before .before .before .before .before .pre in let w = c .before .before .before .before .before .before .before .clear-at in let d = c .before .before .before .before .before .before .before .before .before .before .before .before .before .before .before .before .before .before .before .before .before .scales in let o = c .before .before .before .before .before .before .before .before .before .before .before .before .before .before .others-agree in (first-boards (length (a .area .now)) (a .s) (a .points .now) (a .marked .now) (p .4) (p .0), p .1, p .2, p .3, p .5, p .6, c .before .before .before .before .before .before .before .before .before .before .before .before .before .before .before .before .before .before .before .before .before .before .before .before .before .before .expand .ensures, d .kept .1 .1 .0 ∙ p .8, d .ensures, w .kept .0 ∙ o .kept .1 .1 .1 .1 .1 .1 .1 .0 ∙ p .9, (λ j h. cleared (length (a .points .now)) (o .last .1 .1 .1 .1 .1 .1 .1 .0) (w .last .0) (omega (arith, o .kept .1 .1 .1 .1 .1 .1 .1 .0, p .9)) (w .ensures) j (omega (arith, w .kept .0, o .kept .1 .1 .1 .1 .1 .1 .1 .0, p .9))), omega (arith, o .kept .1 .1 .1 .1 .1 .1 .1 .1 .0, p .10))
+write-columns-requires c κs = let a = c .before .before .before .before .before .before .before .before .before .before .before .before .before .before .before .before .before .before .before .before .before .before .before .before .before .before .before .before .before .before .before .before .before .before .before .before .before .before .before .args in let p = c .before .before .before .before .before .before .before .before .before .before .before .before .before .before .before .before .before .before .before .before .before .before .before .before .before .before .before .before .before .before .before .before .before .before .before .before .before .before .before .pre in let w = c .before .before .before .before .before .before .before .clear-at in let d = c .before .before .before .before .before .before .before .before .before .before .before .before .before .before .before .before .before .before .before .before .before .before .before .scales in let o = c .before .before .before .before .before .before .before .before .before .before .before .before .before .before .others-agree in let l = o .kept .1 .1 .1 .1 .1 .1 .1 .0 ∙ d .kept .1 .1 .0 ∙ p .9 in (first-boards (length (a .area .now)) (a .s) (a .points .now) (a .marked .now) (p .4) (p .0), p .1, p .2, p .3, p .5, p .6, c .before .before .before .before .before .before .before .before .before .before .before .before .before .before .before .before .before .before .before .before .before .before .before .before .before .before .before .before .before .expand .ensures, d .kept .1 .1 .1 .0 ∙ p .8, d .ensures, w .kept .0 ∙ l, (λ j h. cleared (length (a .points .now)) (o .last .1 .1 .1 .1 .1 .1 .1 .0) (w .last .0) (omega (arith, l)) (w .ensures) j (omega (arith, w .kept .0, l))), omega (arith, o .kept .1 .1 .1 .1 .1 .1 .1 .1 .0, p .10))
 
 same-length : tie.Need-same-length
 same-length c = search needs
 
 same-length-2 : tie.Need-same-length-2
-same-length-2 c = c .before .before .before .before .before .before .before .before .before .before .before .before .before .before .before .before .before .before .before .before .before .before .before .before .before .before .before .before .before .before .before .before .before .expand .kept .1 .0
+same-length-2 c = c .before .before .before .before .before .before .before .before .before .before .before .before .before .before .before .before .before .before .before .before .before .before .before .before .before .before .before .before .before .before .before .before .before .before .before .before .expand .kept .1 .0
 
 same-length-3 : tie.Need-same-length-3
 same-length-3 c = search needs

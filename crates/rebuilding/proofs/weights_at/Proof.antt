@@ -1,71 +1,41 @@
-use mathlib.Core.Path.{_≡_, ap, _∙_}
-use Prim.Native.Nat.{_-_, _≤_}
-use native.Mathlib.Omega.{arith}
-use lib.ListN.{length, getD, drop}
+-- `rebuilding::weights_at` meets its contract.
+-- Assumes nothing.
+use mathlib.Core.Path.{_≡_, subst}
+use Prim.Native.Nat.{ℕ, _<_}
+use lib.ListN.{getD}
 use Rattle.field.specs.Field.{mul}
-use Rattle.octets.proofs.Walk.{Walked, start, next}
-use Rattle.code.specs.Code.{value}
-use Rattle.rebuilding.specs.Sums.{quot, Master}
+use Rattle.rebuilding.specs.Sums.{Weight}
+use Rattle.rebuilding.proofs.Weights.{weight-value}
+use native.Mathlib.Omega.{arith}
+use borrow.Author.Needs.{needs}
 use Rattle.rebuilding.proofs.weights_at.Statement.{statement}
 use Rattle.rebuilding.proofs.weights_at.Tie as tie
 
-abbrev Inv-loop : tie.InvT-loop
-Inv-loop points m ds z ws₀ at j₀ ws j = (j ≤ length points) × Walked (λ i v. Master points m → v ≡ mul (getD ds i 0) (value (quot (getD points i 0) (drop 1 m)) z)) ws₀ j ws
+subtract-requires : tie.Need-subtract-requires
+subtract-requires c κs = search needs
 
-abbrev μ-loop : tie.MeasureT-loop
-μ-loop points m ds z ws₀ at j₀ ws j = length points - j
+invert-all-requires : tie.Need-invert-all-requires
+invert-all-requires c κs = search needs
 
-value-at-requires : tie.Need-value-at-requires Inv-loop μ-loop
-value-at-requires c κs = tt
+product-at-requires : tie.Need-product-at-requires
+product-at-requires c κs = search needs
 
-loop-holds : tie.Need-loop-holds Inv-loop μ-loop
-loop-holds c = (omega arith, start _ _ _ (λ k h. absurd (omega arith)))
+weigh-requires : tie.Need-weigh-requires
+weigh-requires c κs = search needs
 
-shared-slice-read-product : tie.Need-shared-slice-read-product Inv-loop μ-loop
-shared-slice-read-product c = omega arith
+same-length : tie.Need-same-length
+same-length c = search needs
 
-shared-slice-read-slope-by : tie.Need-shared-slice-read-slope-by Inv-loop μ-loop
-shared-slice-read-slope-by c = omega arith
-
-slope-by-requires : tie.Need-slope-by-requires Inv-loop μ-loop
-slope-by-requires c κs = c .before .before .before .before .before .before .before .before .before .pre .0
-
-product-requires : tie.Need-product-requires Inv-loop μ-loop
-product-requires c κs = tt
-
-slice-write-ws : tie.Need-slice-write-ws Inv-loop μ-loop
-slice-write-ws c = omega arith
-
-add-j : tie.Need-add-j Inv-loop μ-loop
-add-j c = omega arith
-
-loop-less : tie.Need-loop-less Inv-loop μ-loop
-loop-less c = omega arith
-
-loop-again : tie.Need-loop-again Inv-loop μ-loop
-loop-again c = let a = c .before .before .before .before .before .before .before .before .before .before .before .args in let l = c .before .before .before .before .before .loop in let t = c .before .before .before .before .loop-test .taken in (omega arith, next _ _ (l .j) (l .ws) (c .product .result) (l .inv .1) (omega arith) (λ M. c .product .ensures ∙ ap (mul (getD (a .ds .now) (l .j) 0)) (c .before .slope-by .ensures (M .root (l .j) t) (c .before .before .before .before .before .before .value-at .ensures))))
-
-same-length : tie.Need-same-length Inv-loop μ-loop
-same-length c = c .before .loop .inv .1 .size
-
-returns : tie.Need-returns Inv-loop μ-loop
-returns c = λ M j h. c .before .loop .inv .1 .done j (omega arith) M
+returns : tie.Need-returns
+returns c = let a = c .before .before .before .before .before .before .before .before .before .before .before .before .before .before .before .before .args in let u = c .before .before .before .before .before .before .before .before .before .before .before .subtract .last .1 .1 .0 in let i = c .before .before .before .before .before .before .before .invert-all .last .0 in let w = c .before .before .weigh .last .1 .1 .1 .1 .0 in λ m M S j h. weight-value (a .points .now) m (a .ds .now) (a .z) j (getD i j 0) (getD w j 0) M S h (subst (λ (d : ℕ). 0 < d → mul d (getD i j 0) ≡ 1) (c .before .before .before .before .before .before .before .before .before .before .before .subtract .ensures j h) (c .before .before .before .before .before .before .before .invert-all .ensures j (omega (arith, c .before .before .before .before .before .before .before .before .before .before .before .subtract .kept .1 .1 .0, c .before .before .before .before .before .before .before .before .before .before .before .before .before .before .before .before .pre .1)))) (subst (λ (at : ℕ). Weight (getD (a .points .now) j 0) (a .z) (getD (a .ds .now) j 0) at (getD i j 0) (getD w j 0)) (c .before .before .before .before .product-at .ensures) (c .before .before .weigh .ensures j h))
 
 pub weights-at-spec : {M : Type 1} → statement M
 weights-at-spec =
     tie.close
     (tie.spec
-    Inv-loop
-    μ-loop
-    value-at-requires
-    loop-holds
-    shared-slice-read-product
-    shared-slice-read-slope-by
-    slope-by-requires
-    product-requires
-    slice-write-ws
-    add-j
-    loop-less
-    loop-again
+    subtract-requires
+    invert-all-requires
+    product-at-requires
+    weigh-requires
     same-length
     returns)

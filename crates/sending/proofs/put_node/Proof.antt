@@ -3,6 +3,7 @@
 use mathlib.Core.Path.{ap, _∙_}
 use native.Mathlib.Omega.{arith}
 use Prim.Native.Nat.{ℕ, _+_, _*_, _<_}
+use Rattle.octets.specs.Bytes.{part}
 use Rattle.tree.specs.Levels.{middle}
 use Rattle.tree.proofs.Runs.{beside-low, beside-root}
 use Rattle.sending.specs.Laying.{fragments}
@@ -15,54 +16,37 @@ middle-of-requires : tie.Need-middle-of-requires
 middle-of-requires c κs = search needs
 
 returns : tie.Need-returns
-returns c = λ old l. laid-alone _ _ _ _ _ old _ _ (c .before .before .before .before .pre .2) (omega arith) l
+returns c = λ old l. laid-alone _ _ _ _ _ old _ _ (c .before .before .before .before .before .pre .2) (omega arith) l
 
 beside-of-requires : tie.Need-beside-of-requires
 beside-of-requires c κs = search needs
 
 leaf-count-requires : tie.Need-leaf-count-requires
-leaf-count-requires c κs =
-    let pre = c .before .before .before .before .before .pre in
-    let a = c .before .before .before .before .before .args in
-    let h : middle (a .d) (a .i) < a .n = omega (arith, c .before .before .middle-of .ensures .0) in
-    (pre .1, omega (arith, beside-low (a .n) (a .d) (a .i) (pre .2) h, c .beside-of .ensures), omega (arith, pre .3))
+leaf-count-requires c κs = let pre = c .before .before .before .before .before .before .pre in let a = c .before .before .before .before .before .before .args in let h : middle (a .d) (a .i) < a .n = omega (arith, c .before .before .middle-of .ensures .0) in (pre .1, omega (arith, beside-low (a .n) (a .d) (a .i) (pre .2) h, c .beside-of .ensures), omega (arith, pre .3))
 
-run-root-requires : tie.Need-run-root-requires
-run-root-requires c κs = search needs
+run-in-requires : tie.Need-run-in-requires
+run-in-requires c κs = search needs
 
 nodes-requires : tie.Need-nodes-requires
 nodes-requires c κs = search needs
 
-mul-copy-at : tie.Need-mul-copy-at
-mul-copy-at c = search needs
+mul-copy-part : tie.Need-mul-copy-part
+mul-copy-part c = search needs
 
-add-copy-at : tie.Need-add-copy-at
-add-copy-at c = search needs
+add-copy-part : tie.Need-add-copy-part
+add-copy-part c = search needs
 
-slice-aggregate-copy-at : tie.Need-slice-aggregate-copy-at
-slice-aggregate-copy-at c = search needs
-
-copy-at-requires : tie.Need-copy-at-requires
-copy-at-requires c κs =
-    let pre = c .before .before .before .before .before .before .before .before .before .before .before .before .before .pre in
-    let a = c .before .before .before .before .before .before .before .before .before .before .before .before .before .args in
-    let h : middle (a .d) (a .i) < a .n = omega (arith, c .before .before .before .before .before .before .before .before .before .before .middle-of .ensures .0, c .before .before .before .before .before .before .before .before .before .if1 .left) in
-    omega (arith, node-fits (a .n) (a .i) (a .d) (pre .1) (pre .2) (pre .3) h, pre .4, pre .0 .fits, c .before .nodes .ensures .0, c .before .before .before .before .before .run-root .kept .1 .1 .1 .1 .0)
+copy-part-requires : tie.Need-copy-part-requires
+copy-part-requires c κs = let pre = c .before .before .before .before .before .before .before .before .before .before .before .before .before .before .before .before .before .pre in let a = c .before .before .before .before .before .before .before .before .before .before .before .before .before .before .before .before .before .args in let h : middle (a .d) (a .i) < a .n = omega (arith, c .before .before .before .before .before .before .before .before .before .before .before .before .before .middle-of .ensures .0, c .before .before .before .before .before .before .before .before .before .before .before .before .if1 .left) in (omega (arith, node-fits (a .n) (a .i) (a .d) (pre .1) (pre .2) (pre .3) h, pre .4, pre .0 .fits, c .before .nodes .ensures .0, c .before .before .before .before .before .before .before .run-in .kept .1 .1 .1 .1 .0), omega (arith, pre .5, c .before .before .before .before .before .before .before .run-in .kept .1 .1 .1 .1 .1 .1 .1 .0))
 
 same-length : tie.Need-same-length
 same-length c = search needs
 
+same-length-2 : tie.Need-same-length-2
+same-length-2 c = search needs
+
 returns-2 : tie.Need-returns-2
-returns-2 c =
-    let nodes = c .before .before .before .before .nodes in
-    let run-root = c .before .before .before .before .before .before .before .before .run-root in
-    let copy-at = c .before .before .copy-at in
-    let pre = c .before .before .before .before .before .before .before .before .before .before .before .before .before .before .before .before .pre in
-    let beside-of = c .before .before .before .before .before .before .before .before .before .before .before .beside-of in
-    let leaf-count = c .before .before .before .before .before .before .before .before .before .before .leaf-count in
-    let a = c .before .before .before .before .before .before .before .before .before .before .before .before .before .before .before .before .args in
-    let h : middle (a .d) (a .i) < a .n = omega (arith, c .before .before .before .before .before .before .before .before .before .before .before .before .before .middle-of .ensures .0, c .before .before .before .before .before .before .before .before .before .before .before .before .if1 .left) in
-    λ old l. laid-more (a .n) (fragments (a .k) (a .message .now)) (a .i) (a .at) (a .len) old (a .d) (37 + 32 * nodes .result) (run-root .result) (a .out .now) (run-root .last .1 .1 .1 .1 .0) (copy-at .last .0) h (ap (λ (x : ℕ). 37 + 32 * x) (nodes .ensures .0)) (omega (arith, node-fits (a .n) (a .i) (a .d) (pre .1) (pre .2) (pre .3) h, pre .4, nodes .ensures .0)) (run-root .ensures .0 ∙ beside-root (a .n) (fragments (a .k) (a .message .now)) (a .d) (a .i) (beside-of .result) (leaf-count .result) (pre .1) (pre .3) (pre .2) h (beside-of .ensures) (leaf-count .ensures .0)) (run-root .ensures .1) (copy-at .ensures) l
+returns-2 c = let pre = c .before .before .before .before .before .before .before .before .before .before .before .before .before .before .before .before .before .before .before .before .pre in let a = c .before .before .before .before .before .before .before .before .before .before .before .before .before .before .before .before .before .before .before .before .args in let h : middle (a .d) (a .i) < a .n = omega (arith, c .before .before .before .before .before .before .before .before .before .before .before .before .before .before .before .before .middle-of .ensures .0, c .before .before .before .before .before .before .before .before .before .before .before .before .before .before .before .if1 .left) in λ old l. laid-more (a .n) (fragments (a .k) (a .message .now)) (a .i) (a .at) (a .len) old (a .d) (37 + 32 * c .before .before .before .before .nodes .result) (part 0 32 (c .before .before .before .before .before .before .before .before .before .before .run-in .last .1 .1 .1 .1 .1 .1 .1 .0)) (a .out .now) (c .before .before .before .before .before .before .before .before .before .before .run-in .last .1 .1 .1 .1 .0) (c .before .before .copy-part .last .0) h (ap (λ (x : ℕ). 37 + 32 * x) (c .before .before .before .before .nodes .ensures .0)) (omega (arith, node-fits (a .n) (a .i) (a .d) (pre .1) (pre .2) (pre .3) h, pre .4, c .before .before .before .before .nodes .ensures .0)) (c .before .before .before .before .before .before .before .before .before .before .run-in .ensures .0 ∙ beside-root (a .n) (fragments (a .k) (a .message .now)) (a .d) (a .i) (c .before .before .before .before .before .before .before .before .before .before .before .before .before .before .beside-of .result) (c .before .before .before .before .before .before .before .before .before .before .before .before .before .leaf-count .result) (pre .1) (pre .3) (pre .2) h (c .before .before .before .before .before .before .before .before .before .before .before .before .before .before .beside-of .ensures) (c .before .before .before .before .before .before .before .before .before .before .before .before .before .leaf-count .ensures .0)) (c .before .before .before .before .before .before .before .before .before .before .run-in .ensures .1) (c .before .before .copy-part .ensures) l
 
 pub put-node-spec : {M : Type 1} → statement M
 put-node-spec =
@@ -72,11 +56,11 @@ put-node-spec =
     returns
     beside-of-requires
     leaf-count-requires
-    run-root-requires
+    run-in-requires
     nodes-requires
-    mul-copy-at
-    add-copy-at
-    slice-aggregate-copy-at
-    copy-at-requires
+    mul-copy-part
+    add-copy-part
+    copy-part-requires
     same-length
+    same-length-2
     returns-2)

@@ -11,18 +11,16 @@ use Rattle.sending.proofs.put_path.Statement.{statement}
 use Rattle.sending.proofs.put_path.Tie as tie
 
 abbrev Inv-loop : tie.InvT-loop
-Inv-loop message n k i out₀ at len d₀ out d = (d ≤ 6) × (length out ≡ length out₀) × Laid n (fragments k message) i d at len out₀ out
+Inv-loop message n k i out₀ at len stack₀ d₀ out stack d = (d ≤ 6) × (length out ≡ length out₀) × (length stack ≡ length stack₀) × Laid n (fragments k message) i d at len out₀ out
 
 abbrev μ-loop : tie.MeasureT-loop
-μ-loop message n k i out₀ at len d₀ out d = 6 - d
+μ-loop message n k i out₀ at len stack₀ d₀ out stack d = 6 - d
 
 loop-holds : tie.Need-loop-holds Inv-loop μ-loop
-loop-holds c = (omega arith, refl, laid-start _ _ _ _ _ _)
+loop-holds c = (omega arith, refl, refl, laid-start _ _ _ _ _ _)
 
 put-node-requires : tie.Need-put-node-requires Inv-loop μ-loop
-put-node-requires c κs =
-    let pre = c .before .before .before .before .before .pre in
-    (room-kept _ _ _ _ _ _ (c .before .before .loop .inv .1) (pre .0), pre .1, pre .2, c .before .loop-test .taken, pre .3)
+put-node-requires c κs = let pre = c .before .before .before .before .before .before .before .pre in (room-kept _ _ _ _ _ _ (c .before .before .before .loop .inv .1) (pre .0), pre .1, pre .2, c .before .before .loop-test .taken, pre .3, omega (arith, pre .4, c .before .before .before .loop .inv .2))
 
 add-d : tie.Need-add-d Inv-loop μ-loop
 add-d c = omega arith
@@ -31,19 +29,16 @@ loop-less : tie.Need-loop-less Inv-loop μ-loop
 loop-less c = omega arith
 
 loop-again : tie.Need-loop-again Inv-loop μ-loop
-loop-again c =
-    let put-node = c .before .before .put-node in
-    let loop = c .before .before .before .before .before .loop in (
-      omega arith,
-      put-node .kept .1 .1 .1 .1 .1 .0 ∙ loop .inv .1,
-      put-node .ensures (c .before .before .before .before .before .before .before .before .args .out .now) (loop .inv .2),
-    )
+loop-again c = (omega arith, c .before .before .before .before .put-node .kept .1 .1 .1 .1 .1 .0 ∙ c .before .before .before .before .before .before .before .before .loop .inv .1, c .before .before .before .before .put-node .kept .1 .1 .1 .1 .1 .1 .1 .1 .0 ∙ c .before .before .before .before .before .before .before .before .loop .inv .2, c .before .before .before .before .put-node .ensures (c .before .before .before .before .before .before .before .before .before .before .before .before .args .out .now) (c .before .before .before .before .before .before .before .before .loop .inv .3))
 
 same-length : tie.Need-same-length Inv-loop μ-loop
 same-length c = c .before .loop .inv .1
 
+same-length-2 : tie.Need-same-length-2 Inv-loop μ-loop
+same-length-2 c = c .before .loop .inv .2
+
 returns : tie.Need-returns Inv-loop μ-loop
-returns c = laid-end _ _ _ _ _ _ _ _ (c .before .before .before .before .pre .1) (c .before .before .before .before .pre .2) (omega arith) (c .before .loop .inv .2)
+returns c = laid-end _ _ _ _ _ _ _ _ (c .before .before .before .before .before .pre .1) (c .before .before .before .before .before .pre .2) (omega arith) (c .before .loop .inv .3)
 
 pub put-path-spec : {M : Type 1} → statement M
 put-path-spec =
@@ -57,4 +52,5 @@ put-path-spec =
     loop-less
     loop-again
     same-length
+    same-length-2
     returns)

@@ -8,6 +8,7 @@ use Rattle.octets.specs.Bytes.{part}
 use Rattle.sha256.specs.Sha256.{sha256}
 use Rattle.tree.specs.Tree.{treeOf, climb}
 use Rattle.tree.specs.Check.{nodeOf}
+use Rattle.rising.proofs.Stacks.{leaf-top}
 use borrow.Author.Needs.{needs}
 use Rattle.sending.proofs.root_in.Statement.{statement}
 use Rattle.sending.proofs.root_in.Tie as tie
@@ -18,31 +19,33 @@ mul-end c = search needs
 add-end : tie.Need-add-end
 add-end c = search needs
 
-sub-taken-up : tie.Need-sub-taken-up
-sub-taken-up c = search needs
+add-put-leaf : tie.Need-add-put-leaf
+add-put-leaf c = search needs
 
-part-taken-up-start : tie.Need-part-taken-up-start
-part-taken-up-start c = search needs
+top-of-requires : tie.Need-top-of-requires
+top-of-requires c κs = search needs
 
-part-taken-up-end : tie.Need-part-taken-up-end
-part-taken-up-end c = search needs
+put-leaf-requires : tie.Need-put-leaf-requires
+put-leaf-requires c κs = search needs
 
-add-leaf-part : tie.Need-add-leaf-part
-add-leaf-part c = search needs
+sub-climb-up : tie.Need-sub-climb-up
+sub-climb-up c = search needs
 
-leaf-part-requires : tie.Need-leaf-part-requires
-leaf-part-requires c κs = search needs
+part-climb-up-start : tie.Need-part-climb-up-start
+part-climb-up-start c = search needs
 
-taken-up-requires : tie.Need-taken-up-requires
-taken-up-requires c κs = search needs
+part-climb-up-end : tie.Need-part-climb-up-end
+part-climb-up-end c = search needs
+
+climb-up-requires : tie.Need-climb-up-requires
+climb-up-requires c κs = search needs
+
+same-length : tie.Need-same-length
+same-length c = search needs
 
 returns : tie.Need-returns
 unfolding part
-returns c =
-    let a = c .before .before .before .before .args in
-    let e : 37 + 32 * a .nodes - 37 ≡ 32 * a .nodes = omega arith in
-    let f : 37 + 32 * a .nodes + 2 ≡ 39 + 32 * a .nodes = omega arith in
-    c .taken-up .ensures (part (37 + 32 * a .nodes + 2) (a .len) (a .out .now)) (c .before .leaf-part .ensures) ∙ ap (λ (x : ℕ). climb sha256 (nodeOf (take x (drop 37 (a .out .now)))) (treeOf (a .n)) (a .i) (part (37 + 32 * a .nodes + 2) (a .len) (a .out .now))) e ∙ ap (λ (x : ℕ). climb sha256 (nodeOf (take (32 * a .nodes) (drop 37 (a .out .now)))) (treeOf (a .n)) (a .i) (part x (a .len) (a .out .now))) f
+returns c = let a = c .before .before .before .before .before .before .before .before .before .before .before .before .args in let p = c .before .before .before .before .before .before .before .before .before .before .before .before .pre in let e : 37 + 32 * a .nodes - 37 ≡ 32 * a .nodes = omega arith in let f : 37 + 32 * a .nodes + 2 ≡ 39 + 32 * a .nodes = omega arith in c .before .before .climb-up .ensures (part (37 + 32 * a .nodes + 2) (a .len) (a .out .now)) (leaf-top (a .i) (c .before .before .before .before .before .before .before .before .top-of .result) (part (37 + 32 * a .nodes + 2) (a .len) (a .out .now)) (a .stack .now) (c .before .before .before .before .before .before .before .put-leaf .last .1 .1 .1 .0) (omega (arith, p .0, p .1)) (p .6) (c .before .before .before .before .before .before .before .before .top-of .ensures .0) (c .before .before .before .before .before .before .before .put-leaf .ensures)) ∙ ap (λ (x : ℕ). climb sha256 (nodeOf (take x (drop 37 (a .out .now)))) (treeOf (a .n)) (a .i) (part (37 + 32 * a .nodes + 2) (a .len) (a .out .now))) e ∙ ap (λ (x : ℕ). climb sha256 (nodeOf (take (32 * a .nodes) (drop 37 (a .out .now)))) (treeOf (a .n)) (a .i) (part x (a .len) (a .out .now))) f
 
 pub root-in-spec : {M : Type 1} → statement M
 root-in-spec =
@@ -50,10 +53,12 @@ root-in-spec =
     (tie.spec
     mul-end
     add-end
-    sub-taken-up
-    part-taken-up-start
-    part-taken-up-end
-    add-leaf-part
-    leaf-part-requires
-    taken-up-requires
+    add-put-leaf
+    top-of-requires
+    put-leaf-requires
+    sub-climb-up
+    part-climb-up-start
+    part-climb-up-end
+    climb-up-requires
+    same-length
     returns)

@@ -1,51 +1,36 @@
 -- `sending::run_in` meets its contract. The loop's invariant: j fragments are taken up.
 -- Assumes nothing.
-use Rattle.octets.specs.Bytes.{part}
 use mathlib.Core.Path.{_≡_, refl, sym, ap, _∙_}
-use Prim.Native.Nat.{_+_, _-_, _≤_}
+use mathlib.Core.List.{List}
+use Prim.Native.Nat.{ℕ, _+_, _-_, _≤_}
 use native.Mathlib.Omega.{arith}
 use lib.ListN.{length}
-use Rattle.sha256.specs.Sha256.{sha256}
-use Rattle.tree.specs.Tree.{leafHash}
-use Rattle.code.proofs.Blocks.{length-fragment}
-use Rattle.sending.specs.Laying.{fragments, Alike}
+use Rattle.octets.specs.Bytes.{part}
 use Rattle.octets.proofs.Puts.{part-put}
-use Rattle.sending.proofs.Rooms.{Risen, alike-start, alike-next, risen-start, risen-next}
+use Rattle.code.proofs.Blocks.{length-fragment}
+use Rattle.rising.proofs.Stacks.{Risen, risen-first, risen-next}
+use Rattle.sending.specs.Laying.{fragments, Alike}
+use Rattle.sending.proofs.Rooms.{alike-start, alike-next}
 use Rattle.sending.proofs.run_in.Statement.{statement}
 use Rattle.sending.proofs.run_in.Tie as tie
 
 abbrev Inv-loop : tie.InvT-loop
-Inv-loop message k a c out₀ at len waiting₀ x₀ j₀ out waiting x j = (j ≤ c) × (length out ≡ length out₀) × (length waiting ≡ length waiting₀) × (length x ≡ 32) × Alike at len out out₀ × Risen c (λ j. fragments k message (a + j)) j x waiting
+Inv-loop message k a c out₀ at len stack₀ j₀ out stack j = (j ≤ c) × (length out ≡ length out₀) × (length stack ≡ length stack₀) × Alike at len out out₀ × Risen c (λ j. fragments k message (a + j)) j stack
 
 abbrev μ-loop : tie.MeasureT-loop
-μ-loop message k a c out₀ at len waiting₀ x₀ j₀ out waiting x j = c - j
+μ-loop message k a c out₀ at len stack₀ j₀ out stack j = c - j
 
 loop-holds : tie.Need-loop-holds Inv-loop μ-loop
-loop-holds c = (omega arith, refl, refl, refl, alike-start _ _ _, risen-start _ _ _ _ (c .before .before .before .pre .1))
+loop-holds c = (omega arith, refl, refl, alike-start _ _ _, risen-first _ _ _ (c .before .before .before .pre .1))
 
 add-put-fragment : tie.Need-add-put-fragment Inv-loop μ-loop
 add-put-fragment c = omega (arith, c .before .before .before .before .before .pre .2)
 
 put-fragment-requires : tie.Need-put-fragment-requires Inv-loop μ-loop
-put-fragment-requires c κs =
-    let pre = c .before .before .before .before .before .before .pre in
-    let p = pre .0 in
-    (p .short, p .some, p .few, omega (arith, pre .2), omega (arith, p .size, p .most), omega (arith, p .size, p .fits, c .before .before .loop .inv .1))
+put-fragment-requires c κs = let pre = c .before .before .before .before .before .before .pre in let p = pre .0 in (p .short, p .some, p .few, omega (arith, pre .2), omega (arith, p .size, p .most), omega (arith, p .size, p .fits, c .before .before .loop .inv .1))
 
-leaf-part-requires : tie.Need-leaf-part-requires Inv-loop μ-loop
-leaf-part-requires c κs =
-    let p = c .before .before .before .before .before .before .before .before .before .before .before .pre .0 in (
-      omega (arith, p .most),
-      omega (arith, p .fits, c .before .before .before .before .before .before .before .loop .inv .1, c .before .before .before .before .put-fragment .kept .1 .1 .1 .0),
-    )
-
-raised-requires : tie.Need-raised-requires Inv-loop μ-loop
-raised-requires c κs =
-    let pre = c .before .before .before .before .before .before .before .before .before .before .before .before .pre in (
-      c .before .before .before .before .before .before .before .loop-test .taken,
-      omega (arith, pre .2),
-      omega (arith, pre .3, c .before .before .before .before .before .before .before .before .loop .inv .2),
-    )
+add-leaf-requires : tie.Need-add-leaf-requires Inv-loop μ-loop
+add-leaf-requires c κs = let p = c .before .before .before .before .before .before .before .before .before .before .before .pre .0 in (c .before .before .before .before .before .before .loop-test .taken, omega (arith, c .before .before .before .before .before .before .before .before .before .before .before .pre .2), omega (arith, c .before .before .before .before .before .before .before .before .before .before .before .pre .3, c .before .before .before .before .before .before .before .loop .inv .2), omega (arith, p .most), omega (arith, p .fits, c .before .before .before .before .before .before .before .loop .inv .1, c .before .before .before .before .put-fragment .kept .1 .1 .1 .0))
 
 add-j : tie.Need-add-j Inv-loop μ-loop
 add-j c = omega arith
@@ -54,21 +39,7 @@ loop-less : tie.Need-loop-less Inv-loop μ-loop
 loop-less c = omega arith
 
 loop-again : tie.Need-loop-again Inv-loop μ-loop
-loop-again c =
-    let put-fragment = c .before .before .before .before .before .before .before .before .put-fragment in
-    let raised = c .before .before .raised in
-    let a = c .before .before .before .before .before .before .before .before .before .before .before .before .before .before .before .args in
-    let l = c .before .before .before .before .before .before .before .before .before .before .before .loop in
-    let p = c .before .before .before .before .before .before .before .before .before .before .before .before .before .before .before .pre .0 in
-    let f = fragments (a .k) (a .message .now) (a .a + l .j) in
-    let size : length f ≡ a .len = length-fragment (a .k) (p .some) (a .message .now) _ ∙ sym (p .size) in (
-      omega arith,
-      put-fragment .kept .1 .1 .1 .0 ∙ l .inv .1,
-      raised .kept .0 ∙ l .inv .2,
-      omega arith,
-      alike-next (a .at) (a .len) f (l .out) (a .out .now) (put-fragment .last .1 .1 .1 .0) size (put-fragment .ensures) (l .inv .4),
-      risen-next (a .c) (λ j. fragments (a .k) (a .message .now) (a .a + j)) (l .j) (raised .result) (raised .last .0) (raised .ensures (λ j. fragments (a .k) (a .message .now) (a .a + j)) (c .before .before .before .leaf-part .ensures ∙ ap (λ x. leafHash sha256 (part (a .at) (a .len) x)) (put-fragment .ensures) ∙ ap (leafHash sha256) (part-put (a .at) (a .len) f (l .out) size (omega (arith, p .fits, l .inv .1)))) (l .inv .5 .waits (c .before .before .before .before .before .before .before .before .before .before .loop-test .taken))),
-    )
+loop-again c = let a = c .before .before .before .before .before .before .before .before .before .before .before .before .before .before .args in let l = c .before .before .before .before .before .before .before .before .before .before .loop in let p = c .before .before .before .before .before .before .before .before .before .before .before .before .before .before .pre .0 in let fs : ℕ → List ℕ = λ j. fragments (a .k) (a .message .now) (a .a + j) in let f = fragments (a .k) (a .message .now) (a .a + l .j) in let size : length f ≡ a .len = length-fragment (a .k) (p .some) (a .message .now) _ ∙ sym (p .size) in (omega arith, c .before .before .before .before .before .before .before .put-fragment .kept .1 .1 .1 .0 ∙ l .inv .1, c .before .before .add-leaf .kept .0 ∙ l .inv .2, alike-next (a .at) (a .len) f (l .out) (a .out .now) (c .before .before .before .before .before .before .before .put-fragment .last .1 .1 .1 .0) size (c .before .before .before .before .before .before .before .put-fragment .ensures) (l .inv .3), risen-next (a .c) fs (l .j) (c .before .before .add-leaf .last .0) (c .before .before .add-leaf .ensures fs (ap (part (a .at) (a .len)) (c .before .before .before .before .before .before .before .put-fragment .ensures) ∙ part-put (a .at) (a .len) f (l .out) size (omega (arith, p .fits, l .inv .1))) (l .inv .4 .waits (c .before .before .before .before .before .before .before .before .before .loop-test .taken))))
 
 same-length : tie.Need-same-length Inv-loop μ-loop
 same-length c = c .before .loop .inv .1
@@ -77,7 +48,7 @@ same-length-2 : tie.Need-same-length-2 Inv-loop μ-loop
 same-length-2 c = c .before .loop .inv .2
 
 returns : tie.Need-returns Inv-loop μ-loop
-returns c = (c .before .loop .inv .5 .last (omega arith), c .before .loop .inv .4)
+returns c = (c .before .loop .inv .4 .done (omega arith), c .before .loop .inv .3)
 
 pub run-in-spec : {M : Type 1} → statement M
 run-in-spec =
@@ -88,8 +59,7 @@ run-in-spec =
     loop-holds
     add-put-fragment
     put-fragment-requires
-    leaf-part-requires
-    raised-requires
+    add-leaf-requires
     add-j
     loop-less
     loop-again

@@ -1,59 +1,66 @@
 -- `sha256::load` meets its contract. Assumes nothing.
 use Prim.Native.Nat.{ℕ, _≤_, _+_, _-_, _*_}
-use mathlib.Core.Path.{_≡_, refl, ap, _∙_, sym}
+use mathlib.Core.Path.{_≡_, refl, sym, ap, _∙_, subst}
 use mathlib.Core.List.{_++_}
 use native.Mathlib.Omega.{arith}
-use lib.ListN.{length, take, length-set, length-append}
+use borrow.Author.Tests.{leb-true, eqb-true}
+use lib.ListN.{length, take, length-append}
 use Rattle.octets.specs.Bytes.{tab, fourAt}
-use Rattle.octets.proofs.Tables.{tab-step}
 use Rattle.sha256.specs.Sha256.{pad}
 use Rattle.sha256.proofs.Padding.{length-pad}
+use Rattle.sha256.proofs.Blocks.{words-inside}
 use Rattle.sha256.proofs.load.Statement.{statement}
 use Rattle.sha256.proofs.load.Tie as tie
 
 abbrev Inv-loop : tie.InvT-loop
-Inv-loop w₀ head body at t₀ w t = (t ≤ 16) × (length w ≡ 64) × (take t w ≡ tab t (λ j. fourAt (pad (head ++ body)) (at + 4 * j)))
+Inv-loop w₀ head body at h t₀ w t = (t ≤ 16) × (length w ≡ 64) × (take t w ≡ tab t (λ j. fourAt (pad (head ++ body)) (at + 4 * j)))
 
 abbrev μ-loop : tie.MeasureT-loop
-μ-loop w₀ head body at t₀ w t = 16 - t
+μ-loop w₀ head body at h t₀ w t = 16 - t
+
+add-if2 : tie.Need-add-if2 Inv-loop μ-loop
+add-if2 c = let a = c .before .before .before .args in omega (arith, length-append (a .head .now) (a .body .now), length-pad (a .head .now ++ a .body .now))
+
+add-if2-2 : tie.Need-add-if2-2 Inv-loop μ-loop
+add-if2-2 c = let a = c .before .before .before .args in omega (arith, length-append (a .head .now) (a .body .now), length-pad (a .head .now ++ a .body .now))
+
+load-inside-requires : tie.Need-load-inside-requires Inv-loop μ-loop
+load-inside-requires c κs = omega (arith, leb-true)
+
+returns : tie.Need-returns Inv-loop μ-loop
+unfolding tab
+returns c = let a = c .before .before .before .before .before .before .args in
+    let e : a .at + 4 * 0 - length (a .head .now) ≡ a .at - length (a .head .now) = omega arith in (
+      c .load-inside .ensures .0,
+      c .load-inside .ensures .1 (λ j. fourAt (pad (a .head .now ++ a .body .now)) (a .at + 4 * j))
+          (λ j lt. words-inside (a .head .now) (a .body .now) (a .at) 0 16 (omega arith) (omega (arith, leb-true)) j lt ∙ ap (λ (k : ℕ). fourAt (a .body .now) (k + 4 * j)) e) refl,
+    )
+
+load-first-requires : tie.Need-load-first-requires Inv-loop μ-loop
+load-first-requires c κs = omega (arith, leb-true)
+
+returns-2 : tie.Need-returns-2 Inv-loop μ-loop
+returns-2 c = let a = c .before .before .before .before .before .before .before .before .args in
+    let z : 0 ≡ a .at = omega (arith, eqb-true) in
+    (c .load-first .ensures .0, subst (λ (k : ℕ). take 16 (c .load-first .last .0) ≡ tab 16 (λ t. fourAt (pad (a .head .now ++ a .body .now)) (k + 4 * t))) z (c .load-first .ensures .1))
 
 loop-holds : tie.Need-loop-holds Inv-loop μ-loop
 unfolding tab
 loop-holds c = (omega arith, omega arith, refl)
 
-mul-word-at : tie.Need-mul-word-at Inv-loop μ-loop
-mul-word-at c = omega arith
-
-add-word-at : tie.Need-add-word-at Inv-loop μ-loop
-add-word-at c =
-    let a = c .before .before .before .before .args in
-    omega (arith, length-append (a .head .now) (a .body .now), length-pad (a .head .now ++ a .body .now))
-
-word-at-requires : tie.Need-word-at-requires Inv-loop μ-loop
-word-at-requires c κs =
-    let a = c .before .before .before .before .args in
-    omega (arith, length-append (a .head .now) (a .body .now), length-pad (a .head .now ++ a .body .now))
-
-mul-w : tie.Need-mul-w Inv-loop μ-loop
-mul-w c = omega arith
-
-element-write-w : tie.Need-element-write-w Inv-loop μ-loop
-element-write-w c = omega arith
-
-add-t : tie.Need-add-t Inv-loop μ-loop
-add-t c = omega arith
+load-run-requires : tie.Need-load-run-requires Inv-loop μ-loop
+load-run-requires c κs = omega arith
 
 loop-less : tie.Need-loop-less Inv-loop μ-loop
 loop-less c = omega arith
 
 loop-again : tie.Need-loop-again Inv-loop μ-loop
-loop-again c =
-    let i = c .before .before .loop in
-    (omega arith, simp length-set (i .inv .1), tab-step _ (i .w) (i .t) (c .word-at .result) (omega arith) (i .inv .2) (c .word-at .ensures))
+loop-again c = let l = c .before .before .before .loop in
+    let r = c .load-run .ensures in
+    (r .2, r .0, r .3 (l .inv .2))
 
-returns : tie.Need-returns Inv-loop μ-loop
-returns c =
-    let a = c .before .before .before .before .args in
+returns-3 : tie.Need-returns-3 Inv-loop μ-loop
+returns-3 c = let a = c .before .before .before .before .before .before .args in
     let l = c .before .loop in
     let e : l .t ≡ 16 = omega arith in (
       l .inv .1,
@@ -66,13 +73,14 @@ load-spec =
     (tie.spec
     Inv-loop
     μ-loop
+    add-if2
+    add-if2-2
+    load-inside-requires
+    returns
+    load-first-requires
+    returns-2
     loop-holds
-    mul-word-at
-    add-word-at
-    word-at-requires
-    mul-w
-    element-write-w
-    add-t
+    load-run-requires
     loop-less
     loop-again
-    returns)
+    returns-3)

@@ -1,16 +1,18 @@
 -- `tree::correct` meets its contract. Assumes nothing.
 use Prim.Native.Nat.{_-_, _*_}
-use mathlib.Core.Path.{_≡_, ap₂, _∙_}
+use mathlib.Core.Path.{_≡_, ap, ap₂, _∙_}
 use native.Mathlib.Omega.{arith}
-use borrow.Author.Needs.{needs}
 use lib.ListN.{length}
-use Rattle.octets.specs.Bytes.{same}
+use Rattle.octets.specs.Bytes.{part, same}
 use Rattle.octets.proofs.Picks.{picks}
-use Rattle.sha256.specs.Sha256.{sha256}
-use Rattle.tree.specs.Tree.{treeOf, depth, climb}
-use Rattle.tree.specs.Check.{nodeOf, pathCorrect}
 use Rattle.octets.proofs.Parts.{part-all}
+use Rattle.octets.proofs.Puts.{part-put}
+use Rattle.sha256.specs.Sha256.{digest, sha256}
+use Rattle.sha256.proofs.Digest.{digest-length}
+use Rattle.tree.specs.Tree.{treeOf, depth, leafHash, climb}
+use Rattle.tree.specs.Check.{nodeOf, pathCorrect}
 use Rattle.tree.proofs.Spans.{depth-all}
+use borrow.Author.Needs.{needs}
 use Rattle.tree.proofs.correct.Statement.{statement}
 use Rattle.tree.proofs.correct.Tie as tie
 
@@ -50,12 +52,28 @@ returns-7 c = let a = c .before .before .before .before .before .before .before 
     let wrong : length (a .path .now) ≡ 32 * depth (treeOf (a .n)) (a .i - 1) → ⊥ = λ e. omega (arith, depth-all (a .n) (a .i - 1) (omega arith) (omega arith)) in
     search picks
 
-leaf-requires : tie.Need-leaf-requires
-leaf-requires c κs = search needs
+begun-requires : tie.Need-begun-requires
+begun-requires c κs = search needs
 
-climb-up-requires : tie.Need-climb-up-requires
-climb-up-requires c κs = let a = c .before .before .before .before .before .before .before .before .before .before .before .before .before .args in
-    (omega arith, omega arith, omega arith, omega (arith, depth-all (a .n) (a .i - 1) (omega arith) (omega arith)))
+slice-aggregate-take-all : tie.Need-slice-aggregate-take-all
+slice-aggregate-take-all c = search needs
+
+take-all-requires : tie.Need-take-all-requires
+take-all-requires c κs = search needs
+
+slice-aggregate-rise-up : tie.Need-slice-aggregate-rise-up
+slice-aggregate-rise-up c = search needs
+
+rise-up-requires : tie.Need-rise-up-requires
+rise-up-requires c κs = let a = c .before .before .before .before .before .before .before .before .before .before .before .before .before .before .before .before .before .args in
+    let size = c .before .before .take-all .ensures .0 in
+    omega (arith, depth-all (a .n) (a .i - 1) (omega arith) (omega arith))
+
+slice-aggregate-put-digest : tie.Need-slice-aggregate-put-digest
+slice-aggregate-put-digest c = search needs
+
+put-digest-requires : tie.Need-put-digest-requires
+put-digest-requires c κs = search needs
 
 slice-aggregate-same-at : tie.Need-slice-aggregate-same-at
 slice-aggregate-same-at c = search needs
@@ -64,13 +82,14 @@ same-at-requires : tie.Need-same-at-requires
 same-at-requires c κs = search needs
 
 returns-8 : tie.Need-returns-8
-unfolding pathCorrect
-returns-8 c = let a = c .before .before .before .before .before .before .before .before .before .before .before .before .before .before .before .before .args in
+unfolding pathCorrect leafHash
+returns-8 c = let a = c .before .before .before .before .before .before .before .before .before .before .before .before .before .before .before .before .before .before .before .before .before .before .before .before .before .args in
+    let up = c .before .before .before .before .before .before .before .rise-up in
     let count : length (a .path .now) ≡ 32 * depth (treeOf (a .n)) (a .i - 1) = omega (arith, depth-all (a .n) (a .i - 1) (omega arith) (omega arith)) in
-    let x = c .before .before .climb-up .last .0 in
-    let hash : x ≡ climb sha256 (nodeOf (a .path .now)) (treeOf (a .n)) (a .i - 1) (a .f .now) = c .before .before .climb-up .ensures .1 (a .f .now) (c .before .before .before .before .leaf .ensures) in
+    let hash = up .ensures .2 (a .f .now) (c .before .before .before .before .before .before .before .before .before .before .take-all .ensures .1) in
+    let front = ap (part 0 32) (c .before .before .before .put-digest .ensures) ∙ part-put 0 32 (digest (up .last .0)) _ (digest-length (up .last .0)) (omega arith) in
     let last : c .same-at .result ≡ same (climb sha256 (nodeOf (a .path .now)) (treeOf (a .n)) (a .i - 1) (a .f .now)) (a .root .now) =
-    c .same-at .ensures ∙ ap₂ same (part-all 32 x (c .before .before .climb-up .ensures .0) ∙ hash) (part-all 32 (a .root .now) (omega arith)) in
+    c .same-at .ensures ∙ ap₂ same (front ∙ hash) (part-all 32 (a .root .now) (omega arith)) in
     search picks
 
 pub correct-spec : {M : Type 1} → statement M
@@ -86,8 +105,13 @@ correct-spec =
     nodes-requires
     mul-if7
     returns-7
-    leaf-requires
-    climb-up-requires
+    begun-requires
+    slice-aggregate-take-all
+    take-all-requires
+    slice-aggregate-rise-up
+    rise-up-requires
+    slice-aggregate-put-digest
+    put-digest-requires
     slice-aggregate-same-at
     same-at-requires
     returns-8)

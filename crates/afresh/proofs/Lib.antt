@@ -1,0 +1,3 @@
+-- Laws of the fresh root.
+pub mod Hashing
+pub mod Roots

@@ -1,0 +1,2 @@
+-- What the contract of `fresh_root` cites.
+pub mod Working

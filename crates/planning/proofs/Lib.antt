@@ -1,0 +1,2 @@
+-- Laws of `planning`: Plans of a record that was read.
+pub mod Plans

@@ -1,0 +1,40 @@
+-- `planning::plan_for` meets its contract.
+-- Assumes nothing.
+use mathlib.Core.Path.{sym, _∙_}
+use Rattle.planning.proofs.Plans.{plan-fault, plan-form}
+use borrow.Author.Needs.{needs}
+use Rattle.planning.proofs.plan_for.Statement.{statement}
+use Rattle.planning.proofs.plan_for.Tie as tie
+
+read-record-requires : tie.Need-read-record-requires
+read-record-requires c κs = search needs
+
+enum-told : tie.Need-enum-told
+enum-told c = search needs
+
+plan-by-requires : tie.Need-plan-by-requires
+plan-by-requires c κs = search needs
+
+enum-known-kind : tie.Need-enum-known-kind
+enum-known-kind c = search needs
+
+plan-by-requires-2 : tie.Need-plan-by-requires-2
+plan-by-requires-2 c κs = search needs
+
+returns : tie.Need-returns
+returns c = c .plan-by .ensures ∙ plan-fault (c .before .before .before .before .before .before .before .before .args .s .now) (c .before .before .before .before .before .before .before .before .args .from) (c .before .before .before .before .before .before .before .before .args .r .now) (c .before .before .before .before .before .before .before .before .args .out .now) (c .before .before .before .before .before .before .before .before .args .delivery .now) _ _ (sym (c .before .before .before .read-record .ensures) ∙ c .before .enum-told .given .1)
+
+returns-2 : tie.Need-returns-2
+returns-2 c = c .plan-by2 .ensures ∙ plan-form (c .before .before .before .before .before .before .before .before .before .args .s .now) (c .before .before .before .before .before .before .before .before .before .args .from) (c .before .before .before .before .before .before .before .before .before .args .r .now) (c .before .before .before .before .before .before .before .before .before .args .out .now) (c .before .before .before .before .before .before .before .before .before .args .delivery .now) _ _ _ (sym (c .before .before .before .before .read-record .ensures) ∙ c .before .before .kind .given .1)
+
+pub plan-for-spec : {M : Type 1} → statement M
+plan-for-spec =
+    tie.close
+    (tie.spec
+    read-record-requires
+    enum-told
+    plan-by-requires
+    enum-known-kind
+    plan-by-requires-2
+    returns
+    returns-2)

@@ -1,0 +1,2 @@
+-- What the contracts of `planning` cite beside those of `board`.
+pub mod Working

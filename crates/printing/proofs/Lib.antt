@@ -1,0 +1,2 @@
+-- Laws of `printing`: Prints of text one after the other.
+pub mod Prints

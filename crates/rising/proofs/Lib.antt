@@ -1,0 +1,2 @@
+-- Laws of the stack.
+pub mod Stacks

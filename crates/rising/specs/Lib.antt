@@ -1,0 +1,2 @@
+-- What the contracts of `rising` cite.
+pub mod Stack

@@ -1,0 +1,4 @@
+-- Laws of weighed sums.
+pub mod Totals
+pub mod Weighing
+pub mod Bitwise
