@@ -69,7 +69,7 @@ fn step_at(
     slots::clear(delivery, 64);
     let a = (to - 1) * 5084;
     let e = a + 5084;
-    step::step(&mut states[a..e], from, r, out, delivery)
+    stepping::step(&mut states[a..e], from, r, out, delivery)
 }
 
 // One step of the drill, by its line: the record is handed over and taken, unless it was not yet put out.

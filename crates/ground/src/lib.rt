@@ -214,7 +214,7 @@ pub fn rebuild(b: Table, marked: u64, lengths: &[u8], area: &[u8], block: &mut [
     let most = boards::fragment_most(b);
     let first = first_marked(n, marked);
     let len = length_at(lengths, first);
-    if rebuilding::rebuild(area, most, n, k, marked, len, block) {
+    if restoring::rebuild(area, most, n, k, marked, len, block) {
         return Sized {
             number: 0,
             length: (len * k) as u32,

@@ -1,16 +1,14 @@
-// A board's step: a record is refused, or taken with all that is then due.
-use board::Plan;
+// What a board does with a record that it takes: it keeps what the record says, puts out what is then due, and delivers.
 use board::keep_record;
 use board::write_echo;
 use board::write_vote;
 use boards::Table;
 use boards::fragment_most;
+use delivering::deliver;
 use delivery::Delivered;
-use delivery::deliver;
 use marking::both;
 use marking::mark;
 use marking::settle;
-use planning::plan_for;
 use state::Marks;
 use state::naming_set;
 use state::read_marks;
@@ -28,7 +26,7 @@ ghost use Rattle.state.specs.State.{tableOf, marksOf};
 ghost use Rattle.board.specs.Stepped.{rootOf, leaves};
 ghost use Rattle.delivery.specs.Delivered.{left};
 ghost use Rattle.step.specs.Asked.{Formed, Deliverable};
-ghost use Rattle.step.specs.Step.{stepped, outcome, placeOf, good, putOut, saidBy, resultIn, delivered, takenOf, stepOf};
+ghost use Rattle.step.specs.Step.{placeOf, good, putOut, saidBy, resultIn, delivered};
 
 // What a step answers: 0 or a refusal's number, the length of the record put out, the delivery (0 none, 1 a message, 2 void) and its length.
 #[repr(C)]
@@ -48,7 +46,7 @@ fn place(s: &[u8], kind: u8, from: usize) -> usize
 }
 
 // Whether the path of a record is correct.
-fn is_good(s: &[u8], from: usize, r: &[u8], kind: u8, nodes: usize, len: usize) -> bool
+pub fn is_good(s: &[u8], from: usize, r: &[u8], kind: u8, nodes: usize, len: usize) -> bool
     requires { ⌜ (4608 ≤ length (now s)) × Formed (now r) nodes len ⌝ }
     ensures { λ x. ⌜ x ≡ good kind nodes len from (now (r .entry)) (now (s .entry)) ⌝ }
 {
@@ -92,7 +90,7 @@ fn deliver_due(s: &[u8], b: Table, m: Marks, r: &[u8], ends: bool, delivery: &mu
 }
 
 // Whether the state says that the board is done.
-fn is_done(s: &[u8]) -> bool
+pub fn is_done(s: &[u8]) -> bool
     requires { ⌜ 4608 ≤ length (now s) ⌝ }
     ensures { λ x. ⌜ x ≡ marksOf (now (s .entry)) .done ⌝ }
 {
@@ -101,14 +99,14 @@ fn is_done(s: &[u8]) -> bool
 }
 
 // No delivery.
-fn nothing() -> Delivered
+pub fn nothing() -> Delivered
     ensures { λ x. ⌜ (x .kind ≡ 0) × (x .length ≡ 0) ⌝ }
 {
     Delivered { kind: 0, length: 0 }
 }
 
 // The delivery by what the state says: it is due if the board is done now.
-fn deliver_done(s: &[u8], r: &[u8], delivery: &mut [u8]) -> Delivered
+pub fn deliver_done(s: &[u8], r: &[u8], delivery: &mut [u8]) -> Delivered
     requires { ⌜ (4608 ≤ length (now s)) × Deliverable (tableOf (now s)) (marksOf (now s)) (now s) (now r) (now delivery) (marksOf (now s) .done) ⌝ }
     ensures { λ x. ⌜ left x (now (delivery .exit)) ≡ delivered (marksOf (now (s .entry)) .done) (resultIn (tableOf (now (s .entry))) (marksOf (now (s .entry))) (now (s .entry)) (rootOf (now (r .entry)))) (now (delivery .entry)) ⌝ }
 {
@@ -118,7 +116,7 @@ fn deliver_done(s: &[u8], r: &[u8], delivery: &mut [u8]) -> Delivered
 }
 
 // Keeps what a record says and puts out what is then due; the length of the record put out. `good` says whether its path is correct.
-fn take_in(
+pub fn take_in(
     s: &mut [u8],
     from: usize,
     r: &[u8],
@@ -146,86 +144,4 @@ fn take_in(
         both(kind == 1, good),
         both(!m.voted, after.voted),
     )
-}
-
-// The answer of a step that took its record.
-fn answered(put: u32, left: Delivered) -> Stepped
-    ensures { λ x. ⌜ x ≡ stepped 0 put (left .kind) (left .length) ⌝ }
-{
-    Stepped {
-        number: 0,
-        record_length: put,
-        delivery: left.kind,
-        message_length: left.length,
-    }
-}
-
-// Takes a vote: it has no path. take_in and deliver_done are called here and in take_record, so that the compiler leaves each its own frame:
-// no step then pays for the frames of both.
-fn take_vote(
-    s: &mut [u8],
-    from: usize,
-    r: &[u8],
-    out: &mut [u8],
-    delivery: &mut [u8],
-    nodes: usize,
-    len: usize,
-) -> Stepped
-    requires { ⌜ planOf (now s) from (now r) (now out) (now delivery) ≡ Take 3 nodes len ⌝ }
-    ensures { λ x. ⌜ outcome x (now (s .exit)) (now (out .exit)) (now (delivery .exit)) ≡ takenOf 3 nodes len (now (s .entry)) from (now (r .entry)) (now (out .entry)) (now (delivery .entry)) ⌝ }
-{
-    let put = take_in(s, from, r, out, 3, nodes, len, false);
-    if !is_done(s) {
-        return answered(put, nothing());
-    }
-    answered(put, deliver_done(s, r, delivery))
-}
-
-// Takes a record: keeps what it says, and does all that is then due.
-fn take_record(
-    s: &mut [u8],
-    from: usize,
-    r: &[u8],
-    out: &mut [u8],
-    delivery: &mut [u8],
-    kind: u8,
-    nodes: usize,
-    len: usize,
-) -> Stepped
-    requires { ⌜ planOf (now s) from (now r) (now out) (now delivery) ≡ Take kind nodes len ⌝ }
-    ensures { λ x. ⌜ outcome x (now (s .exit)) (now (out .exit)) (now (delivery .exit)) ≡ takenOf kind nodes len (now (s .entry)) from (now (r .entry)) (now (out .entry)) (now (delivery .entry)) ⌝ }
-{
-    if kind == 3 {
-        return take_vote(s, from, r, out, delivery, nodes, len);
-    }
-    let good = is_good(s, from, r, kind, nodes, len);
-    let put = take_in(s, from, r, out, kind, nodes, len, good);
-    if !is_done(s) {
-        return answered(put, nothing());
-    }
-    answered(put, deliver_done(s, r, delivery))
-}
-
-// A board's step: the record `r` from a board, by the board's state; `out` is for the record put out, `delivery` for the message delivered.
-pub fn step(state: &mut [u8], from: usize, r: &[u8], out: &mut [u8], delivery: &mut [u8]) -> Stepped
-    ensures { λ x. ⌜ outcome x (now (state .exit)) (now (out .exit)) (now (delivery .exit)) ≡ stepOf (now (state .entry)) from (now (r .entry)) (now (out .entry)) (now (delivery .entry)) ⌝ }
-{
-    match plan_for(state, from, r, out, delivery) {
-        Plan::Refuse { number } => Stepped {
-            number: number,
-            record_length: 0,
-            delivery: 0,
-            message_length: 0,
-        },
-        Plan::Take { kind, nodes, len } => take_record(
-            state,
-            from,
-            r,
-            out,
-            delivery,
-            kind,
-            nodes,
-            len,
-        ),
-    }
 }

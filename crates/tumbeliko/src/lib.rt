@@ -200,7 +200,7 @@ pub extern "C" fn tumbeliko_step(
     ensures { λ r. ⌜ outcome r (now (state .exit)) (now (out .exit)) (now (delivery .exit))
         ≡ stepOf (now (state .entry)) from (now («record» .entry)) (now (out .entry)) (now (delivery .entry)) ⌝ }
 {
-    step::step(state, from as usize, record, out, delivery)
+    stepping::step(state, from as usize, record, out, delivery)
 }
 
 // The sender's record for one board; 1, 2, 4, 13.
