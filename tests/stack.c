@@ -23,10 +23,11 @@
 #define LONGEST 16384
 
 /* Bytes beyond the lent buffers. Why two calls may take more than the others
- * stands in docs/DECISIONS.md. */
+ * stands in docs/DECISIONS.md; theirs are 32 above what was measured, since
+ * another C library's memset may take a little more. */
 #define LIMIT            768
-#define LIMIT_SEND       1080
-#define LIMIT_DELIVERING 1528
+#define LIMIT_SEND       1112
+#define LIMIT_DELIVERING 1560
 
 static uint8_t *stack;
 static ucontext_t here, there;

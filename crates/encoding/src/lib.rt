@@ -76,6 +76,7 @@ fn double_all(column: &mut [u8])
     }
 }
 
+// The larger of two bytes.
 fn larger(a: u8, b: u8) -> u8
     ensures { λ r. ⌜ (a ≤ r) × (b ≤ r) ⌝ }
 {
@@ -148,6 +149,7 @@ fn gather_any(message: &[u8], k: usize, from: usize, a: usize, e: usize, column:
     }
 }
 
+// The smaller of two numbers.
 fn least(a: usize, b: usize) -> usize
     ensures { λ r. ⌜ (r ≤ a) × (r ≤ b) × (r < b → r ≡ a) × (0 < a → 0 < b → 0 < r) ⌝ }
 {

@@ -92,7 +92,7 @@ fn rise(
 }
 
 // The digest of h, the hash of leaf i of n, taken up beside the nodes of the path. pair is room to work in. Called from one place, so that
-// the compiler folds it into the path check's frame: hence the climb of its own that taken_up has.
+// the compiler folds it into the path check's frame: hence the climb of its own that crate rising has for the sender.
 fn rise_up(h: &mut [u32; 8], pair: &mut [u8], path: &[u8], n: usize, i: usize)
     requires { ⌜ (n ≤ 64) × (i < n) × (length (now h) ≡ 8) × (length (now pair) ≡ 64) × (length (now path) ≡ 32 * depth (treeOf n) i) ⌝ }
     ensures { λ _. ⌜ (length (now (h .exit)) ≡ 8) × (length (now (pair .exit)) ≡ 64)
