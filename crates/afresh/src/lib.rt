@@ -62,7 +62,7 @@ fn end_byte(x: u8, i: usize, len: usize, v: u8) -> u8
     if i == len {
         return v;
     }
-    sha256::pad_byte(len + 1, i)
+    hashing::pad_byte(len + 1, i)
 }
 
 // The last byte and the padding, of the 64 bytes from `at` on.
@@ -122,10 +122,10 @@ fn fresh_leaf(
     let mut j = 0;
     while j < count {
         fill(area, s, points, ws, v, len, j, buffer);
-        sha256::take_block(&mut h, buffer);
+        hashing::take_block(&mut h, buffer);
         j += 1;
     }
-    sha256::put_digest(&h, stack, at);
+    hashing::put_digest(&h, stack, at);
 }
 
 // The root of the n fragments of the block that is encoded afresh, into the first 32 bytes of the stack: `row` is its last row. ws and buffer are

@@ -36,7 +36,7 @@ pub fn hash(string: &[u8]) -> Digest
             bytes: [0u8; 32],
         };
     }
-    let bytes = sha256::joined(b"", string);
+    let bytes = hashing::joined(b"", string);
     Digest {
         number: 0,
         bytes: bytes,
@@ -83,7 +83,7 @@ pub fn encode(b: Table, message: &[u8], area: &mut [u8], root: &mut [u8], paths:
     let most = boards::fragment_most(b);
     let len = code::row_count(message.len(), k);
     encoding::put_fragments(message, n, k, most, area);
-    tree::write_tree(area, most, len, n, root, paths);
+    growing::write_tree(area, most, len, n, root, paths);
     Sized {
         number: 0,
         length: len as u32,

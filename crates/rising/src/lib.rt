@@ -28,8 +28,8 @@ fn join(stack: &mut [u8], at: usize)
 {
     let to = at + 64;
     let mut h = sha256::begun();
-    sha256::absorb(&mut h, b"\x01", &stack[at..to], 128);
-    sha256::put_digest(&h, stack, at);
+    hashing::absorb(&mut h, b"\x01", &stack[at..to], 128);
+    hashing::put_digest(&h, stack, at);
 }
 
 // Whether the tree d levels high that leaf i is in is a left half whose right half is still to come.
@@ -82,8 +82,8 @@ pub fn put_leaf(buffer: &[u8], from: usize, len: usize, stack: &mut [u8], at: us
 {
     let to = from + len;
     let mut h = sha256::begun();
-    sha256::absorb(&mut h, b"\0", &buffer[from..to], (len + 73) / 64 * 64);
-    sha256::put_digest(&h, stack, at);
+    hashing::absorb(&mut h, b"\0", &buffer[from..to], (len + 73) / 64 * 64);
+    hashing::put_digest(&h, stack, at);
 }
 
 // Leaf i of n, which stands in a buffer, len bytes from a place on, after those before it.
