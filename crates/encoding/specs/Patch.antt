@@ -32,6 +32,6 @@ inBlock msg k from i = getD (header (length msg) ++ msg) (from + i * k) 0
 abbrev pub plusBit : ℕ → ℕ → ℕ → List ℕ → List ℕ → List ℕ → ℕ → ℕ → ℕ
 plusBit at s b powers column old i d = add (getD old (at + i * s + d) 0) (getD powers i 0 / 2 ^ b % 2 * getD column d 0)
 
--- byte d of room i, with byte d of the column added as many times as the board's power says
+-- byte d of room i, with byte d of the column, times the board's power, added
 abbrev pub plusTimes : ℕ → ℕ → List ℕ → List ℕ → List ℕ → ℕ → ℕ → ℕ
 plusTimes at s powers column old i d = add (getD old (at + i * s + d) 0) (mul (getD powers i 0) (getD column d 0))
