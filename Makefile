@@ -37,7 +37,7 @@ KNOWN = $(if $(call have,openssl/sha.h,-lcrypto),-DHAVE_OPENSSL -lcrypto) \
         $(if $(call have,bearssl.h,-lbearssl),-DHAVE_BEARSSL -lbearssl) \
         $(if $(call have,isa-l/erasure_code.h,-lisal),-DHAVE_ISAL -lisal)
 
-.PHONY: help test lib demo line-demo drill bench growth stack soak fuzz clean tools
+.PHONY: help test lib demo line-demo drill bench growth stack soak fuzz house clean tools
 .PHONY: library-test header-test reference-test vectors-test ground-test board-test line-test drill-test examples-test stack-test
 
 help:
@@ -51,6 +51,7 @@ help:
 	@echo "make stack    the stack of each call alone, beside its limit"
 	@echo "make soak     whole lines of boards for MINUTES=10, each time with a new seed"
 	@echo "make fuzz     the calls on bytes that a coverage-guided fuzzer finds, for MINUTES=10"
+	@echo "make house    draw anew what stands on what among the crates, docs/house.svg"
 	@echo "make clean    remove build/ and target/"
 	@echo
 	@echo "one part of the tests: library-test header-test reference-test vectors-test ground-test"
@@ -238,6 +239,13 @@ stack: build/stack-test
 
 stack-test: build/stack-test
 	@$(RUN) build/stack-test
+
+# Fails where crates.txt names a crate that is not cited, or lacks one that is.
+house: | build
+	@python3 docs/house.py > build/house.dot
+	@command -v dot > /dev/null || { echo "dot is not here: install graphviz to draw"; exit 1; }
+	@dot -Tsvg build/house.dot -o docs/house.svg
+	@echo "the crates are drawn in docs/house.svg"
 
 drill: build/drill
 	@echo "the drill program is build/drill: it reads a drill from standard input$(if $(RUN), (run it by $(RUN)))"

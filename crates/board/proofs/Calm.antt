@@ -1,5 +1,5 @@
 -- Nothing is overdue once a step has done what is due.
-use mathlib.Core.Path.{_≡_, refl, ap}
+use mathlib.Core.Path.{_≡_, refl, sym, ap}
 use Prim.Native.Nat.{ℕ, _+_, _≤_, _<_}
 use mathlib.Core.List.{List}
 use mathlib.Core.Bool.{Bool, true, false, not, _&&_, _||_}
@@ -10,19 +10,16 @@ use lib.Dec.{leb, ltb}
 use Rattle.octets.specs.Bytes.{pick, part, same}
 use Rattle.octets.specs.Sets.{has}
 use Rattle.octets.proofs.Sames.{same-equal}
-use Rattle.octets.proofs.Picks.{and-l, and-r}
-use Rattle.boards.specs.Table.{kOf, mostOf, someOf}
-use Rattle.boards.specs.declared.Table.{Table}
-use Rattle.boards.proofs.Within.{Within}
+use Rattle.octets.proofs.Picks.{and-l, and-r, never}
+use Rattle.table.specs.Table.{kOf, mostOf, someOf}
+use Rattle.table.specs.declared.Table.{Table}
+use Rattle.table.proofs.Within.{Within}
 use Rattle.state.specs.State.{viewOf, echoAt, voteAt}
 use Rattle.state.specs.Sound.{naming, reaches, waitsAt, waits, quiet}
 use Rattle.state.specs.declared.Marks.{Marks}
 use Rattle.octets.proofs.Members.{some-at, some-find}
 use Rattle.state.proofs.Tallies.{reaches-larger, naming-find}
-use Rattle.board.specs.Stepped.{due, won, enough, votedNow, outputNow, endsNow, ended, settledTo}
-
-never : _≡_ {A = Bool} true false → ⊥
-never e = let z : _≡_ {A = ℕ} 0 1 = cc in omega arith
+use Rattle.board.specs.Stepped.{voteDue, won, enoughUsable, votedNow, outputNow, endsNow, withFlags, settledTo}
 
 -- The flags: before they say that nothing is overdue; de, dv: n-t echoes, t+1 votes name the root just taken; w: n-t votes do;
 -- n: k usable echoes do. w0, rv0, re0, rs0 are what waits or is reached before, w1, rv1, re1, rs1 after.
@@ -38,7 +35,7 @@ flags : (done output voted de dv w n w0 rv0 re0 rs0 w1 rv1 re1 rs1 : Bool) → d
     ((done || (true && ((output || (true && ((voted || (true && (de || dv))) && w))) && (w && n)))) || w1)
     (pick (voted || (true && (de || dv))) (not rv1) (not re1 && not rs1)) ≡ true
 unfolding pick
-flags true o v de dv w n w0 rv0 re0 rs0 w1 rv1 re1 rs1 d h a b l e f g = absurd (never d)
+flags true o v de dv w n w0 rv0 re0 rs0 w1 rv1 re1 rs1 d h a b l e f g = never (sym d)
 flags false true v de dv true true w0 rv0 re0 rs0 w1 rv1 re1 rs1 d h a b l e f g = refl
 flags false true v de dv true false w0 rv0 re0 rs0 w1 rv1 re1 rs1 d h a b l e f g = a h refl
 flags false true v de dv false n w0 rv0 re0 rs0 w1 rv1 re1 rs1 d h a b l e f g = a h refl
@@ -83,27 +80,27 @@ module _ (b : Table) (m0 m : Marks) (s s1 root : List ℕ) (w : Within b) (x : C
   waits-by : (j : ℕ) (r : List ℕ) → j < b .n → has (m .votes) j ≡ true → voteRootsOf s1 j ≡ r
       → mostOf b ≤ ones (naming (b .n) (m .votes) (voteRootsOf s1) r) → ones (naming (b .n) (m .usable) (echoRootsOf s1) r) < kOf b
       → waits (viewOf b after s1) ≡ true
-  unfolding waits waitsAt settledTo ended
+  unfolding waits waitsAt settledTo withFlags
   waits-by j r h t e p q =
       some-at (waitsAt (viewOf b after s1)) 0 (b .n) j (omega arith) (omega arith)
       (rw (t, e, le-leb (mostOf b) (ones (naming (b .n) (m .votes) (voteRootsOf s1) r)) p, lt-ltb (ones (naming (b .n) (m .usable) (echoRootsOf s1) r)) (kOf b) q))
 
-  opens : won b m s1 root ≡ true → enough b m s1 root ≡ false → waits (viewOf b after s1) ≡ true
-  unfolding won enough
+  opens : won b m s1 root ≡ true → enoughUsable b m s1 root ≡ false → waits (viewOf b after s1) ≡ true
+  unfolding won enoughUsable
   opens p q =
       let most : mostOf b ≤ ones (naming (b .n) (m .votes) (voteRootsOf s1) root) = leb-true (mostOf b) (ones (naming (b .n) (m .votes) (voteRootsOf s1) root)) p in
       let few : ones (naming (b .n) (m .usable) (echoRootsOf s1) root) < kOf b = leb-false (kOf b) (ones (naming (b .n) (m .usable) (echoRootsOf s1) root)) q in
       let (j, h, t, e) = naming-find (b .n) (m .votes) (voteRootsOf s1) root (omega (arith, w .third)) in
       waits-by j root h t e most few
 
-  few-of : (r : List ℕ) → mostOf b ≤ ones (naming (b .n) (m .votes) (voteRootsOf s1) r) → root ≡ r → (won b m s1 root && enough b m s1 root) ≡ false
+  few-of : (r : List ℕ) → mostOf b ≤ ones (naming (b .n) (m .votes) (voteRootsOf s1) r) → root ≡ r → (won b m s1 root && enoughUsable b m s1 root) ≡ false
       → ones (naming (b .n) (m .usable) (echoRootsOf s1) r) < kOf b
-  unfolding won enough
+  unfolding won enoughUsable
   few-of r p e h =
       let q : (leb (mostOf b) (ones (naming (b .n) (m .votes) (voteRootsOf s1) r)) && leb (kOf b) (ones (naming (b .n) (m .usable) (echoRootsOf s1) r))) ≡ false = rw e at h in
       leb-false (kOf b) (ones (naming (b .n) (m .usable) (echoRootsOf s1) r)) (rw (le-leb (mostOf b) (ones (naming (b .n) (m .votes) (voteRootsOf s1) r)) p) at q)
 
-  stays : waits (viewOf b m0 s) ≡ true → (won b m s1 root && enough b m s1 root) ≡ false → waits (viewOf b after s1) ≡ true
+  stays : waits (viewOf b m0 s) ≡ true → (won b m s1 root && enoughUsable b m s1 root) ≡ false → waits (viewOf b after s1) ≡ true
   unfolding waits waitsAt
   stays h n = from (some-find (waitsAt (viewOf b m0 s)) 0 (b .n) h)
     where
@@ -131,10 +128,10 @@ module _ (b : Table) (m0 m : Marks) (s s1 root : List ℕ) (w : Within b) (x : C
       (pick (m .voted) (not (reaches (b .n) (mostOf b) (m0 .votes) (voteRootsOf s)))
       (not (reaches (b .n) (mostOf b) (m0 .echoes) (echoRootsOf s)) && not (reaches (b .n) (someOf b) (m0 .votes) (voteRootsOf s)))) ≡ true
       → quiet (viewOf b (settledTo b true m s1 root) s1) ≡ true
-  unfolding quiet settledTo ended votedNow outputNow endsNow due won
+  unfolding quiet settledTo withFlags votedNow outputNow endsNow voteDue won
   calm d h =
       flags (m .done) (m .output) (m .voted) (leb (mostOf b) (ones (naming (b .n) (m .echoes) (echoRootsOf s1) root)))
-      (leb (someOf b) (ones (naming (b .n) (m .votes) (voteRootsOf s1) root))) (won b m s1 root) (enough b m s1 root) (waits (viewOf b m0 s))
+      (leb (someOf b) (ones (naming (b .n) (m .votes) (voteRootsOf s1) root))) (won b m s1 root) (enoughUsable b m s1 root) (waits (viewOf b m0 s))
       (reaches (b .n) (mostOf b) (m0 .votes) (voteRootsOf s)) (reaches (b .n) (mostOf b) (m0 .echoes) (echoRootsOf s))
       (reaches (b .n) (someOf b) (m0 .votes) (voteRootsOf s)) (waits (viewOf b after s1)) (reaches (b .n) (mostOf b) (m .votes) (voteRootsOf s1))
       (reaches (b .n) (mostOf b) (m .echoes) (echoRootsOf s1)) (reaches (b .n) (someOf b) (m .votes) (voteRootsOf s1)) d h stays opens

@@ -8,22 +8,22 @@ use lib.Dec.{eqb}
 use lib.ListN.{length}
 use Rattle.octets.specs.Bytes.{pick, put, two}
 use Rattle.octets.proofs.Laws.{length-put}
-use Rattle.state.specs.State.{tableOf, ownOf, marksOf, lenAt, echoAt, voteAt, fragmentAt}
-use Rattle.state.proofs.Views.{put-table, put-own, put-marks}
-use Rattle.board.specs.Stepped.{rootOf, fragmentOf, kept}
+use Rattle.state.specs.State.{tableOf, ownOf, lenAt, echoAt, voteAt, fragmentAt}
+use Rattle.state.proofs.Views.{put-table, put-own}
+use Rattle.board.specs.Stepped.{recordRoot, recordFragment, kept}
 
 module _ (max k i p f : ℕ) (r s : List ℕ) where
   abbrev rooted : List ℕ
-  rooted = put (echoAt i) (rootOf r) s
+  rooted = put (echoAt i) (recordRoot r) s
 
   abbrev sized : List ℕ
   sized = put (lenAt i) (two f) rooted
 
   abbrev echoed : List ℕ
-  echoed = put (fragmentAt max i) (fragmentOf p f r) sized
+  echoed = put (fragmentAt max i) (recordFragment p f r) sized
 
   abbrev voted : List ℕ
-  voted = put (voteAt i) (rootOf r) s
+  voted = put (voteAt i) (recordRoot r) s
 
   -- what holds after an echo, after a vote and before holds after any record
   by-kind : (Q : List ℕ → Type 0) → Q echoed → Q voted → Q s → Q (kept max k i p f r s)
@@ -38,26 +38,19 @@ module _ (max k i p f : ℕ) (r s : List ℕ) where
   pub kept-length : length (kept max k i p f r s) ≡ length s
   kept-length =
       by-kind (λ x. length x ≡ length s)
-      (length-put (fragmentAt max i) (fragmentOf p f r) sized ∙ length-put (lenAt i) (two f) rooted ∙ length-put (echoAt i) (rootOf r) s)
-      (length-put (voteAt i) (rootOf r) s) refl
+      (length-put (fragmentAt max i) (recordFragment p f r) sized ∙ length-put (lenAt i) (two f) rooted ∙ length-put (echoAt i) (recordRoot r) s)
+      (length-put (voteAt i) (recordRoot r) s) refl
 
   pub kept-table : tableOf (kept max k i p f r s) ≡ tableOf s
   kept-table =
       by-kind (λ x. tableOf x ≡ tableOf s)
-      (put-table (fragmentAt max i) (fragmentOf p f r) sized (omega arith) ∙ put-table (lenAt i) (two f) rooted (omega arith)
-      ∙ put-table (echoAt i) (rootOf r) s (omega arith))
-      (put-table (voteAt i) (rootOf r) s (omega arith)) refl
+      (put-table (fragmentAt max i) (recordFragment p f r) sized (omega arith) ∙ put-table (lenAt i) (two f) rooted (omega arith)
+      ∙ put-table (echoAt i) (recordRoot r) s (omega arith))
+      (put-table (voteAt i) (recordRoot r) s (omega arith)) refl
 
   pub kept-own : ownOf (kept max k i p f r s) ≡ ownOf s
   kept-own =
       by-kind (λ x. ownOf x ≡ ownOf s)
-      (put-own (fragmentAt max i) (fragmentOf p f r) sized (omega arith) ∙ put-own (lenAt i) (two f) rooted (omega arith)
-      ∙ put-own (echoAt i) (rootOf r) s (omega arith))
-      (put-own (voteAt i) (rootOf r) s (omega arith)) refl
-
-  pub kept-marks : marksOf (kept max k i p f r s) ≡ marksOf s
-  kept-marks =
-      by-kind (λ x. marksOf x ≡ marksOf s)
-      (put-marks (fragmentAt max i) (fragmentOf p f r) sized (omega arith) ∙ put-marks (lenAt i) (two f) rooted (omega arith)
-      ∙ put-marks (echoAt i) (rootOf r) s (omega arith))
-      (put-marks (voteAt i) (rootOf r) s (omega arith)) refl
+      (put-own (fragmentAt max i) (recordFragment p f r) sized (omega arith) ∙ put-own (lenAt i) (two f) rooted (omega arith)
+      ∙ put-own (echoAt i) (recordRoot r) s (omega arith))
+      (put-own (voteAt i) (recordRoot r) s (omega arith)) refl

@@ -11,11 +11,11 @@ use lib.ListN.{length, getD, replicate, length-append, length-replicate, List·g
 use Rattle.octets.specs.Bytes.{pick, put, two, twoAt, fourAt, eightAt}
 use Rattle.octets.proofs.Laws.{getD-put-in}
 use Rattle.octets.proofs.Tables.{getD-right}
-use Rattle.boards.specs.Table.{limits, mostOf, someOf}
-use Rattle.boards.specs.declared.Table.{Table}
-use Rattle.boards.proofs.Within.{within}
-use Rattle.state.specs.State.{State, tableOf, ownOf, marksOf, view, viewOf, flag, lenAt}
-use Rattle.state.specs.Sound.{isBoard, setsOk, flagsOk, usableOk, lengthOk, boardOk, quiet, sound}
+use Rattle.table.specs.Table.{limits, mostOf, someOf, isBoard}
+use Rattle.table.specs.declared.Table.{Table}
+use Rattle.table.proofs.Within.{within}
+use Rattle.state.specs.State.{fixedBytes, State, tableOf, ownOf, marksOf, view, viewOf, flag, lenAt}
+use Rattle.state.specs.Sound.{setsOk, flagsOk, usableOk, lengthOk, boardOk, quiet, sound}
 use Rattle.state.specs.declared.Marks.{Marks}
 use Rattle.octets.proofs.Members.{every-all, has-none}
 use Rattle.state.proofs.Tallies.{reaches-few}
@@ -66,14 +66,14 @@ module _ (b : Table) (s : List ℕ) (lim : limits b ≡ true) (own : isBoard b (
   unfolding sound setsOk flagsOk
   bare-sound = rw (lim, own, zero-div (2 ^ b .n), every-all (boardOk bare) 0 64 (λ i h. bare-board i (omega arith)), bare-quiet)
 
-module _ (b : Table) (own : ℕ) (s : List ℕ) (lim : limits b ≡ true) (known : isBoard b own ≡ true) (long : 4608 ≤ length s) where
+module _ (b : Table) (own : ℕ) (s : List ℕ) (lim : limits b ≡ true) (known : isBoard b own ≡ true) (long : fixedBytes ≤ length s) where
   abbrev first : List ℕ
   first = b .n ∷ b .t ∷ b .sender ∷ own ∷ two (b .longest)
 
   abbrev fresh : List ℕ
   fresh = put 0 (first ++ replicate 4602 0) s
 
-  size : length (first ++ replicate 4602 0) ≡ 4608
+  size : length (first ++ replicate 4602 0) ≡ fixedBytes
   size = length-append first (replicate 4602 0) ∙ ap (λ (x : ℕ). 6 + x) (length-replicate {A = ℕ} 4602 0)
 
   low : (i : ℕ) → i < 6 → getD fresh i 0 ≡ getD first i 0
@@ -82,7 +82,7 @@ module _ (b : Table) (own : ℕ) (s : List ℕ) (lim : limits b ≡ true) (known
       (rw z at (getD-put-in (first ++ replicate 4602 0) s 0 i (omega (arith, size)) (omega (arith, size))))
       ∙ List·getD-append first (replicate 4602 0) 0 i h
 
-  high : (i : ℕ) → 6 ≤ i → i < 4608 → getD fresh i 0 ≡ 0
+  high : (i : ℕ) → 6 ≤ i → i < fixedBytes → getD fresh i 0 ≡ 0
   high i h k =
       let z : 0 + i ≡ i = omega arith in
       (rw z at (getD-put-in (first ++ replicate 4602 0) s 0 i (omega (arith, size)) (omega (arith, size))))
@@ -102,8 +102,8 @@ module _ (b : Table) (own : ℕ) (s : List ℕ) (lim : limits b ≡ true) (known
   fresh-marks : marksOf fresh ≡ unmarked
   unfolding marksOf
   fresh-marks =
-      let o : (i : ℕ) → 6 ≤ i → i < 4608 → flag fresh i ≡ false = λ i h k. ap (λ (x : ℕ). not (eqb x 0)) (high i h k) in
-      let e : (i : ℕ) → 6 ≤ i → i + 8 ≤ 4608 → eightAt fresh i ≡ 0 = eight-zero fresh 6 4608 high in
+      let o : (i : ℕ) → 6 ≤ i → i < fixedBytes → flag fresh i ≡ false = λ i h k. ap (λ (x : ℕ). not (eqb x 0)) (high i h k) in
+      let e : (i : ℕ) → 6 ≤ i → i + 8 ≤ fixedBytes → eightAt fresh i ≡ 0 = eight-zero fresh 6 fixedBytes high in
       λ j. record {
         acquired = o 6 (omega arith) (omega arith) j;
         voted = o 7 (omega arith) (omega arith) j;
@@ -132,4 +132,4 @@ module _ (b : Table) (own : ℕ) (s : List ℕ) (lim : limits b ≡ true) (known
   unfolding freshBytes
   start-sound =
       rw (fresh-table, fresh-marks)
-      (bare-sound b fresh lim (rw fresh-own known) (λ i h. two-zero fresh 6 4608 high (lenAt i) (omega arith) (omega arith)))
+      (bare-sound b fresh lim (rw fresh-own known) (λ i h. two-zero fresh 6 fixedBytes high (lenAt i) (omega arith) (omega arith)))

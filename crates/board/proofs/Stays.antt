@@ -11,11 +11,11 @@ use lib.Dec.{leb, eqb}
 use lib.ListN.{length}
 use Rattle.octets.specs.Bytes.{pick, put, two, twoAt, same}
 use Rattle.octets.specs.Sets.{has}
-use Rattle.octets.proofs.Picks.{and-l}
-use Rattle.boards.specs.Table.{sMax}
-use Rattle.boards.specs.declared.Table.{Table}
-use Rattle.boards.proofs.Within.{within}
-use Rattle.state.specs.State.{viewOf, lenAt, echoAt, voteAt, fragmentAt}
+use Rattle.octets.proofs.Picks.{and-l, never, or-true}
+use Rattle.table.specs.Table.{sMax}
+use Rattle.table.specs.declared.Table.{Table}
+use Rattle.table.proofs.Within.{within}
+use Rattle.state.specs.State.{fixedBytes, viewOf, lenAt, echoAt, voteAt, fragmentAt}
 use Rattle.state.specs.Sound.{usableOk, lengthOk, boardOk, flagsOk, naming, waits, waitsAt, quiet}
 use Rattle.state.specs.declared.Marks.{Marks}
 use Rattle.octets.proofs.Members.{has-new, has-old, or-below, some-ext}
@@ -23,15 +23,8 @@ use Rattle.state.proofs.Facts.{Sounds}
 use Rattle.state.proofs.First.{naming-ext, reaches-ext}
 use Rattle.state.proofs.Tallies.{naming-other, naming-more, naming-out, reaches-more}
 use Rattle.state.proofs.Views.{vote-new, vote-old, vote-echoes, vote-len, put-own, echo-new, echo-old, echo-votes, echoed-own, len-new, len-old}
-use Rattle.board.specs.Stepped.{marked, due, won, enough, votedNow, outputNow, endsNow, ended, settledTo}
+use Rattle.board.specs.Stepped.{marked, voteDue, won, enoughUsable, votedNow, outputNow, endsNow, withFlags, settledTo}
 use Rattle.board.proofs.Calm.{Change, calm, echoRootsOf, voteRootsOf}
-
-never : {X : Type 0} → _≡_ {A = Bool} false true → X
-never e = absurd (let z : _≡_ {A = ℕ} 0 1 = cc in omega arith)
-
-or-true : (a : Bool) → (a || true) ≡ true
-or-true true = refl
-or-true false = refl
 
 or-not : (a b : Bool) → (not a || b) ≡ true → b ≡ false → a ≡ false
 or-not true b e f = never (rw f at e)
@@ -57,7 +50,7 @@ board-new : (a e : Bool) (l max : ℕ) → e ≡ true → 1 ≤ l → l ≤ max 
 unfolding pick
 board-new a e l max t h k = rw (t, or-true (not a), le-leb 1 l h, le-leb l max k)
 
-module _ (b : Table) (m0 : Marks) (s root : List ℕ) (i : ℕ) (old : Sounds (viewOf b m0 s)) (long : 4608 ≤ length s) (hi : i < b .n)
+module _ (b : Table) (m0 : Marks) (s root : List ℕ) (i : ℕ) (old : Sounds (viewOf b m0 s)) (long : fixedBytes ≤ length s) (hi : i < b .n)
     (lr : length root ≡ 32) (open-yet : m0 .done ≡ false) where
   few : b .n ≤ 64
   few = within b (old .lim) .few
@@ -115,7 +108,7 @@ module _ (b : Table) (m0 : Marks) (s root : List ℕ) (i : ℕ) (old : Sounds (v
     }
 
     echo-board : (j : ℕ) → j < 64 → boardOk (viewOf b (settledTo b true m1 s1 root) s1) j ≡ true
-    unfolding boardOk usableOk lengthOk settledTo ended marked has pick
+    unfolding boardOk usableOk lengthOk settledTo withFlags marked has pick
     echo-board j h = go (eqb j i) refl
       where
         lens : (j ≡ i → ⊥) → twoAt s1 (lenAt j) ≡ twoAt s (lenAt j)
@@ -131,16 +124,16 @@ module _ (b : Table) (m0 : Marks) (s root : List ℕ) (i : ℕ) (old : Sounds (v
             rw (has-old (m0 .echoes) i j z, usable-has good j z, lens z) (old .boards j h)
 
     echo-flags : flagsOk (settledTo b true m1 s1 root) ≡ true
-    unfolding flagsOk settledTo ended votedNow outputNow endsNow marked
+    unfolding flagsOk settledTo withFlags votedNow outputNow endsNow marked
     echo-flags =
-        flags-kept (m0 .output) (m0 .voted) true (due b m1 s1 root) (won b m1 s1 root) (enough b m1 s1 root) (m0 .done) open-yet (old .flags)
+        flags-kept (m0 .output) (m0 .voted) true (voteDue b m1 s1 root) (won b m1 s1 root) (enoughUsable b m1 s1 root) (m0 .done) open-yet (old .flags)
 
     echo-calm : quiet (viewOf b (settledTo b true m1 s1 root) s1) ≡ true
     unfolding marked quiet
     echo-calm = calm b m0 m1 s s1 root (within b (old .lim)) echo-change open-yet (old .calm)
 
     pub echo-sounds : Sounds (viewOf b (settledTo b true m1 s1 root) s1)
-    unfolding settledTo ended marked pick
+    unfolding settledTo withFlags marked pick
     echo-sounds = record {
       lim = old .lim;
       own = rw (echoed-own (sMax b) i f root fragment s place lr lf hf small long room) (old .own);
@@ -184,20 +177,20 @@ module _ (b : Table) (m0 : Marks) (s root : List ℕ) (i : ℕ) (old : Sounds (v
         apart j t z = let x : has (m0 .votes) i ≡ true = rw z at t in let y : _≡_ {A = ℕ} 0 1 = cc in omega arith
 
     vote-board : (j : ℕ) → j < 64 → boardOk (viewOf b (settledTo b true m3 s3 root) s3) j ≡ true
-    unfolding boardOk usableOk lengthOk settledTo ended marked pick
+    unfolding boardOk usableOk lengthOk settledTo withFlags marked pick
     vote-board j h = rw (vote-len i root s place lr long j h) (old .boards j h)
 
     vote-flags : flagsOk (settledTo b true m3 s3 root) ≡ true
-    unfolding flagsOk settledTo ended votedNow outputNow endsNow marked
+    unfolding flagsOk settledTo withFlags votedNow outputNow endsNow marked
     vote-flags =
-        flags-kept (m0 .output) (m0 .voted) true (due b m3 s3 root) (won b m3 s3 root) (enough b m3 s3 root) (m0 .done) open-yet (old .flags)
+        flags-kept (m0 .output) (m0 .voted) true (voteDue b m3 s3 root) (won b m3 s3 root) (enoughUsable b m3 s3 root) (m0 .done) open-yet (old .flags)
 
     vote-calm : quiet (viewOf b (settledTo b true m3 s3 root) s3) ≡ true
     unfolding marked quiet
     vote-calm = calm b m0 m3 s s3 root (within b (old .lim)) vote-change open-yet (old .calm)
 
     pub vote-sounds : Sounds (viewOf b (settledTo b true m3 s3 root) s3)
-    unfolding settledTo ended marked pick
+    unfolding settledTo withFlags marked pick
     vote-sounds = record {
       lim = old .lim;
       own = rw (put-own (voteAt i) root s (omega arith)) (old .own);
@@ -216,16 +209,16 @@ module _ (b : Table) (m0 : Marks) (s root : List ℕ) (i : ℕ) (old : Sounds (v
     m5 = marked 1 i good m0
 
     send-board : (j : ℕ) → j < 64 → boardOk (viewOf b (settledTo b false m5 s root) s) j ≡ true
-    unfolding boardOk usableOk lengthOk settledTo ended marked pick
+    unfolding boardOk usableOk lengthOk settledTo withFlags marked pick
     send-board j h = old .boards j h
 
     send-flags : flagsOk (settledTo b false m5 s root) ≡ true
-    unfolding flagsOk settledTo ended votedNow outputNow endsNow marked
+    unfolding flagsOk settledTo withFlags votedNow outputNow endsNow marked
     send-flags =
-        flags-kept (m0 .output) (m0 .voted) false (due b m5 s root) (won b m5 s root) (enough b m5 s root) (m0 .done) open-yet (old .flags)
+        flags-kept (m0 .output) (m0 .voted) false (voteDue b m5 s root) (won b m5 s root) (enoughUsable b m5 s root) (m0 .done) open-yet (old .flags)
 
     send-waits : waits (viewOf b (settledTo b false m5 s root) s) ≡ waits (viewOf b m0 s)
-    unfolding waits waitsAt settledTo ended marked pick
+    unfolding waits waitsAt settledTo withFlags marked pick
     send-waits = some-ext (waitsAt (viewOf b (settledTo b false m5 s root) s)) (waitsAt (viewOf b m0 s)) 0 (b .n) (λ j h. refl)
 
     still : (o v d w x A B : Bool) → w ≡ x → pick (o || false) ((d || false) || w) (pick (v || false) A B) ≡ pick o (d || x) (pick v A B)
@@ -236,11 +229,11 @@ module _ (b : Table) (m0 : Marks) (s root : List ℕ) (i : ℕ) (old : Sounds (v
     still false false d w x A B e = refl
 
     send-calm : quiet (viewOf b (settledTo b false m5 s root) s) ≡ true
-    unfolding quiet settledTo ended votedNow outputNow endsNow marked pick
+    unfolding quiet settledTo withFlags votedNow outputNow endsNow marked pick
     send-calm = still (m0 .output) (m0 .voted) (m0 .done) _ _ _ _ send-waits ∙ old .calm
 
     pub send-sounds : Sounds (viewOf b (settledTo b false m5 s root) s)
-    unfolding settledTo ended marked pick
+    unfolding settledTo withFlags marked pick
     send-sounds = record {
       lim = old .lim;
       own = old .own;

@@ -9,18 +9,18 @@ use borrow.Author.Tests.{ltb-false, not-false}
 use lib.ListN.{length}
 use lib.Dec.{ltb}
 use Rattle.octets.specs.Bytes.{pick}
-use Rattle.boards.specs.Table.{sMax}
-use Rattle.boards.specs.declared.Table.{Table}
-use Rattle.record.specs.Form.{parse}
+use Rattle.table.specs.Table.{sMax, isBoard}
+use Rattle.table.specs.declared.Table.{Table}
+use Rattle.record.specs.Form.{outBytes, parse}
 use Rattle.record.specs.declared.Read.{Read}
 use Rattle.record.specs.declared.Read.the-variants.{Form, Fault}
-use Rattle.state.specs.State.{view, stateSize, tableOf, marksOf, fragmentAt}
-use Rattle.state.specs.Sound.{isBoard, sound}
+use Rattle.state.specs.State.{fixedBytes, view, stateSize, tableOf, marksOf, fragmentAt}
+use Rattle.state.specs.Sound.{sound}
 use Rattle.state.specs.declared.Marks.{Marks}
-use Rattle.state.proofs.Facts.{board-number}
+use Rattle.table.proofs.Within.{board-number}
 use Rattle.board.specs.declared.Plan.{Plan}
 use Rattle.board.specs.declared.Plan.the-variants.{Refuse, Take}
-use Rattle.board.specs.Planned.{isShort, isStray, isLate, isAgain, byMarks, byForm, planOf}
+use Rattle.board.specs.Planned.{isShort, isStray, isLate, isAgain, byMarks, byForm, planBy, planOf}
 use Rattle.octets.proofs.Picks.{or-none-l, or-none-r}
 
 -- a test on the way to taking a record was not met
@@ -38,10 +38,10 @@ pub record Allowed (b : Table) (m : Marks) (from k f : ℕ) : Type 0 where
 
 -- what a record that is taken gives
 pub record Taken (s : List ℕ) (from : ℕ) (r o d : List ℕ) (k p f : ℕ) : Type 0 where
-  pub long : 4608 ≤ length s
+  pub long : fixedBytes ≤ length s
   pub sound : sound (view s) ≡ true
   pub room : stateSize (tableOf s) ≤ length s
-  pub out : 16619 ≤ length o
+  pub out : outBytes ≤ length o
   pub delivery : tableOf s .longest ≤ length d
   pub board : isBoard (tableOf s) from ≡ true
   pub form : parse r ≡ Form k p f
@@ -67,22 +67,22 @@ read b m from (Form k p f) k′ p′ f′ e =
     (h .0, rw (x, y) at (h .1))
 
 pub taken : (s : List ℕ) (from : ℕ) (r o d : List ℕ) (k p f : ℕ) → planOf s from r o d ≡ Take k p f → Taken s from r o d k p f
-unfolding planOf isShort
+unfolding planOf planBy isShort
 taken s from r o d k p f e =
     let b = tableOf s in
     let A = ltb (length s) (stateSize b) in
-    let B = ltb (length o) 16619 in
+    let B = ltb (length o) outBytes in
     let C = ltb (length d) (b .longest) in
-    let h1 = unmet (ltb (length s) 4608) _ _ _ _ _ e in
+    let h1 = unmet (ltb (length s) fixedBytes) _ _ _ _ _ e in
     let h2 = unmet (not (sound (view s))) _ _ _ _ _ (h1 .1) in
     let h3 = unmet (A || (B || C)) _ _ _ _ _ (h2 .1) in
     let h4 = unmet (not (isBoard b from)) _ _ _ _ _ (h3 .1) in
     let h5 = read b (marksOf s) from (parse r) k p f (h4 .1) in
     record {
-      long = ltb-false (length s) 4608 (h1 .0);
+      long = ltb-false (length s) fixedBytes (h1 .0);
       sound = not-false (sound (view s)) (h2 .0);
       room = ltb-false (length s) (stateSize b) (or-none-l A (B || C) (h3 .0));
-      out = ltb-false (length o) 16619 (or-none-l B C (or-none-r A (B || C) (h3 .0)));
+      out = ltb-false (length o) outBytes (or-none-l B C (or-none-r A (B || C) (h3 .0)));
       delivery = ltb-false (length d) (b .longest) (or-none-r B C (or-none-r A (B || C) (h3 .0)));
       board = not-false (isBoard b from) (h4 .0);
       form = h5 .0;
@@ -124,9 +124,9 @@ listed-form b m from (Form k p f) =
     (listed-pick (isAgain m (from - 1) k) 9 (Take k p f) (omega arith) (omega arith) tt)))
 
 pub listed : (s : List ℕ) (from : ℕ) (r o d : List ℕ) (q : ℕ) → planOf s from r o d ≡ Refuse q → (2 ≤ q) × (q ≤ 9)
-unfolding planOf
+unfolding planOf planBy
 listed s from r o d q e = subst Listed e
-    (listed-pick (ltb (length s) 4608) 2 _ (omega arith) (omega arith)
+    (listed-pick (ltb (length s) fixedBytes) 2 _ (omega arith) (omega arith)
     (listed-pick (not (sound (view s))) 3 _ (omega arith) (omega arith)
     (listed-pick (isShort (tableOf s) (length s) (length o) (length d)) 2 _ (omega arith) (omega arith)
     (listed-pick (not (isBoard (tableOf s) from)) 4 _ (omega arith) (omega arith) (listed-form (tableOf s) (marksOf s) from (parse r))))))

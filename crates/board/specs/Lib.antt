@@ -1,4 +1,4 @@
--- What the contracts of `board`, `marking` and `planning` cite.
+-- What the contracts of `board`, `board_mark` and `board_plan` cite.
 pub mod Planned
 pub mod Started
 pub mod Stepped

@@ -6,20 +6,20 @@ use lib.ListN.{length}
 use lib.Dec.{ltb, eqb}
 use Rattle.octets.specs.Bytes.{pick}
 use Rattle.octets.specs.Sets.{has}
-use Rattle.boards.specs.Table.{sMax}
-use Rattle.boards.specs.declared.Table.{Table}
-use Rattle.record.specs.Form.{parse}
+use Rattle.table.specs.Table.{sMax, isBoard}
+use Rattle.table.specs.declared.Table.{Table}
+use Rattle.record.specs.Form.{outBytes, parse}
 use Rattle.record.specs.declared.Read.{Read}
 use Rattle.record.specs.declared.Read.the-variants.{Form, Fault}
-use Rattle.state.specs.State.{view, stateSize, tableOf, marksOf}
-use Rattle.state.specs.Sound.{isBoard, sound}
+use Rattle.state.specs.State.{fixedBytes, view, stateSize, tableOf, marksOf}
+use Rattle.state.specs.Sound.{sound}
 use Rattle.state.specs.declared.Marks.{Marks}
 use Rattle.board.specs.declared.Plan.{Plan}
 use Rattle.board.specs.declared.Plan.the-variants.{Refuse, Take}
 
 -- 2, "a lent buffer shorter than needed": the state, "an outgoing record buffer 16,619; a delivery buffer L"
 unfoldable pub isShort : Table → ℕ → ℕ → ℕ → Bool
-isShort b state out delivery = ltb state (stateSize b) || (ltb out 16619 || ltb delivery (b .longest))
+isShort b state out delivery = ltb state (stateSize b) || (ltb out outBytes || ltb delivery (b .longest))
 
 -- 6, "send from a board other than S"
 unfoldable pub isStray : Table → ℕ → ℕ → Bool
@@ -47,11 +47,15 @@ unfoldable pub byForm : Table → Marks → ℕ → Read → Plan
 byForm b m from (Fault why at) = Refuse 5
 byForm b m from (Form k p f) = byMarks b m from k p f
 
--- "a step looks in the order 3, 2, 4, 5, 6, 7, 8, 9, but a state buffer under 4,608 bytes gives 2 at once"
-unfoldable pub planOf : List ℕ → ℕ → List ℕ → List ℕ → List ℕ → Plan
-planOf s from r o d =
-    pick (ltb (length s) 4608) (Refuse 2)
+-- "a step looks in the order 3, 2, 4, 5, 6, 7, 8, 9, but a state buffer under 4,608 bytes gives 2 at once": by what was read of the record,
+-- and the lengths o and d of the outgoing and the delivery buffer
+unfoldable pub planBy : List ℕ → ℕ → ℕ → ℕ → Read → Plan
+planBy s from o d x =
+    pick (ltb (length s) fixedBytes) (Refuse 2)
     (pick (not (sound (view s))) (Refuse 3)
-    (pick (isShort (tableOf s) (length s) (length o) (length d)) (Refuse 2)
+    (pick (isShort (tableOf s) (length s) o d) (Refuse 2)
     (pick (not (isBoard (tableOf s) from)) (Refuse 4)
-    (byForm (tableOf s) (marksOf s) from (parse r)))))
+    (byForm (tableOf s) (marksOf s) from x))))
+
+unfoldable pub planOf : List ℕ → ℕ → List ℕ → List ℕ → List ℕ → Plan
+planOf s from r o d = planBy s from (length o) (length d) (parse r)

@@ -1,18 +1,17 @@
 -- Document 01, "Refusal numbers": a start looks in the order 1, 2.
-use Prim.Native.Nat.{ℕ}
+use Prim.Native.Nat.{ℕ, _-_}
 use mathlib.Core.List.{List, _∷_, _++_}
 use mathlib.Core.Bool.{not, _&&_}
 use lib.ListN.{length, replicate}
 use lib.Dec.{ltb}
 use Rattle.octets.specs.Bytes.{pick, put, two}
-use Rattle.boards.specs.Table.{limits}
-use Rattle.boards.specs.declared.Table.{Table}
-use Rattle.state.specs.State.{stateSize}
-use Rattle.state.specs.Sound.{isBoard}
+use Rattle.table.specs.Table.{limits, isBoard}
+use Rattle.table.specs.declared.Table.{Table}
+use Rattle.state.specs.State.{fixedBytes, stateSize}
 
 -- the first 4,608 bytes of a fresh state: the table and the own number, no flag, no board heard, all else zero
 unfoldable pub freshBytes : Table → ℕ → List ℕ
-freshBytes b own = b .n ∷ b .t ∷ b .sender ∷ own ∷ (two (b .longest) ++ replicate 4602 0)
+freshBytes b own = b .n ∷ b .t ∷ b .sender ∷ own ∷ (two (b .longest) ++ replicate (fixedBytes - 6) 0)
 
 -- what a start leaves: its answer, and the state lent
 pub record Begun : Type 0 where

@@ -8,21 +8,21 @@ use lib.Bits.{bitOr}
 use lib.Count.{ones}
 use lib.Dec.{leb, eqb}
 use Rattle.octets.specs.Bytes.{pick, part, put, two}
-use Rattle.boards.specs.Table.{kOf, sMax, mostOf, someOf}
-use Rattle.boards.specs.declared.Table.{Table}
-use Rattle.state.specs.State.{tableOf, marksOf, marksBytes, lenAt, echoAt, voteAt, fragmentAt}
+use Rattle.table.specs.Table.{kOf, sMax, mostOf, someOf}
+use Rattle.table.specs.declared.Table.{Table}
+use Rattle.state.specs.State.{fixedBytes, tableOf, marksOf, marksBytes, lenAt, echoAt, voteAt, fragmentAt}
 use Rattle.state.specs.Sound.{naming}
 use Rattle.state.specs.declared.Marks.{Marks}
 
 -- the root, the path of p nodes and the fragment of f bytes in a record
-abbrev pub rootOf : List ℕ → List ℕ
-rootOf r = part 3 32 r
+abbrev pub recordRoot : List ℕ → List ℕ
+recordRoot r = part 3 32 r
 
-abbrev pub pathOf : ℕ → List ℕ → List ℕ
-pathOf p r = part 37 (32 * p) r
+abbrev pub recordPath : ℕ → List ℕ → List ℕ
+recordPath p r = part 37 (32 * p) r
 
-abbrev pub fragmentOf : ℕ → ℕ → List ℕ → List ℕ
-fragmentOf p f r = part (39 + 32 * p) f r
+abbrev pub recordFragment : ℕ → ℕ → List ℕ → List ℕ
+recordFragment p f r = part (39 + 32 * p) f r
 
 -- the marks once a record of kind k from board i + 1 is taken: a send "mark it acquired"; an echo, "usable if the path is
 -- correct" (good), and "an unusable echo still counts as an echo"; a vote
@@ -40,12 +40,12 @@ marked k i good m = record {
 -- the bytes kept of it: "echo from i: keep its root and fragment", "vote from i: keep its root"; max is s_max
 unfoldable pub kept : ℕ → ℕ → ℕ → ℕ → ℕ → List ℕ → List ℕ → List ℕ
 kept max k i p f r s =
-    pick (eqb k 2) (put (fragmentAt max i) (fragmentOf p f r) (put (lenAt i) (two f) (put (echoAt i) (rootOf r) s)))
-    (pick (eqb k 3) (put (voteAt i) (rootOf r) s) s)
+    pick (eqb k 2) (put (fragmentAt max i) (recordFragment p f r) (put (lenAt i) (two f) (put (echoAt i) (recordRoot r) s)))
+    (pick (eqb k 3) (put (voteAt i) (recordRoot r) s) s)
 
 -- "n-t echoes name one root, or t+1 votes do"
-unfoldable pub due : Table → Marks → List ℕ → List ℕ → Bool
-due b m s root =
+unfoldable pub voteDue : Table → Marks → List ℕ → List ℕ → Bool
+voteDue b m s root =
     leb (mostOf b) (ones (naming (b .n) (m .echoes) (λ j. part (echoAt j) 32 s) root))
     || leb (someOf b) (ones (naming (b .n) (m .votes) (λ j. part (voteAt j) 32 s) root))
 
@@ -54,12 +54,12 @@ unfoldable pub won : Table → Marks → List ℕ → List ℕ → Bool
 won b m s root = leb (mostOf b) (ones (naming (b .n) (m .votes) (λ j. part (voteAt j) 32 s) root))
 
 -- "k usable echoes name that root"
-unfoldable pub enough : Table → Marks → List ℕ → List ℕ → Bool
-enough b m s root = leb (kOf b) (ones (naming (b .n) (m .usable) (λ j. part (echoAt j) 32 s) root))
+unfoldable pub enoughUsable : Table → Marks → List ℕ → List ℕ → Bool
+enoughUsable b m s root = leb (kOf b) (ones (naming (b .n) (m .usable) (λ j. part (echoAt j) 32 s) root))
 
 -- "then, not yet voted: .. put out a vote"; word: the record is an echo or a vote
 unfoldable pub votedNow : Table → Bool → Marks → List ℕ → List ℕ → Bool
-votedNow b word m s root = m .voted || (word && due b m s root)
+votedNow b word m s root = m .voted || (word && voteDue b m s root)
 
 -- "then, voted and ..: the output stage opens on that root"
 unfoldable pub outputNow : Table → Bool → Marks → List ℕ → List ℕ → Bool
@@ -67,11 +67,11 @@ outputNow b word m s root = m .output || (word && (votedNow b word m s root && w
 
 -- "in the output stage, once ..": the delivery is due, and "the board is then done"
 unfoldable pub endsNow : Table → Bool → Marks → List ℕ → List ℕ → Bool
-endsNow b word m s root = word && (outputNow b word m s root && (won b m s root && enough b m s root))
+endsNow b word m s root = word && (outputNow b word m s root && (won b m s root && enoughUsable b m s root))
 
 -- the marks with the last three flags as said
-unfoldable pub ended : Marks → Bool → Bool → Bool → Marks
-ended m voted output done = record {
+unfoldable pub withFlags : Marks → Bool → Bool → Bool → Marks
+withFlags m voted output done = record {
   acquired = m .acquired;
   voted = voted;
   output = output;
@@ -83,20 +83,20 @@ ended m voted output done = record {
 
 -- the marks once all that is due is done
 unfoldable pub settledTo : Table → Bool → Marks → List ℕ → List ℕ → Marks
-settledTo b word m s root = ended m (votedNow b word m s root) (outputNow b word m s root) (m .done || endsNow b word m s root)
+settledTo b word m s root = withFlags m (votedNow b word m s root) (outputNow b word m s root) (m .done || endsNow b word m s root)
 
 -- the state that a record of kind k from a board leaves, by whether its path is correct
 unfoldable pub leaves : Bool → ℕ → ℕ → ℕ → ℕ → List ℕ → List ℕ → List ℕ
 leaves good k p f from r s =
     let b = tableOf s in
     let s1 = kept (sMax b) k (from - 1) p f r s in
-    put 6 (marksBytes (settledTo b (not (eqb k 1)) (marked k (from - 1) good (marksOf s)) s1 (rootOf r))) s1
+    put 6 (marksBytes (settledTo b (not (eqb k 1)) (marked k (from - 1) good (marksOf s)) s1 (recordRoot r))) s1
 
 -- what keeping a record of p nodes and f fragment bytes of board i + 1 asks of the buffers
-pub record Room (s r : List ℕ) (max i p f : ℕ) : Type 0 where
+pub record KeptRoom (s r : List ℕ) (max i p f : ℕ) : Type 0 where
   pub board : i < 64
   pub most : max ≤ 16388
-  pub long : 4608 ≤ length s
+  pub long : fixedBytes ≤ length s
   pub fragment : fragmentAt max i + f ≤ length s
   pub nodes : p ≤ 6
   pub ends : 39 + 32 * p + f ≡ length r

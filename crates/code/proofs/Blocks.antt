@@ -5,14 +5,12 @@ use mathlib.Core.List.{List, [], _∷_, _++_}
 use Prim.Native.Nat.{ℕ, zero, suc, _+_, _-_, _*_, _/_, _%_, _<_, _≤_}
 use native.Mathlib.Nat as N
 use native.Mathlib.Omega.{arith}
-use lib.ListN.{length, getD, drop, replicate, length-append, length-replicate, length-take, length-drop, drop-of-length-le}
+use lib.ListN.{length, getD, drop, replicate, length-append, length-replicate, length-take, length-drop}
 use lib.Seq.{getD-append-add, getD-take, getD-drop}
-use Rattle.field.specs.Field.{add, mul}
 use Rattle.octets.specs.Bytes.{part}
 use Rattle.octets.proofs.Tables.{length-tab, getD-tab}
-use Rattle.code.specs.Code.{value, row, fragmentByte, fragmentOf}
+use Rattle.code.specs.Code.{row, fragmentByte, fragmentOf}
 use Rattle.code.specs.Block.{header, rows, block}
-use Rattle.code.proofs.Horner.{value-next}
 
 -- ---- the header
 
@@ -96,14 +94,3 @@ module _ (k : ℕ) (pos : 0 < k) (msg : List ℕ) where
     getD-row j g =
         getD-take k (drop (c * k) (block k msg)) j 0 g ∙ getD-drop (c * k) (block k msg) j 0
         ∙ pad (header (length msg) ++ msg) (rows k (length msg) * k - (4 + length msg)) (c * k + j)
-
-    pub row-none : (x : ℕ) → value (drop k (row k (block k msg) c)) x ≡ 0
-    unfolding value
-    row-none x = ap (λ (l : List ℕ). value l x) (drop-of-length-le (row k (block k msg) c) (N.le-of-eq length-row))
-
-    pub row-next : (x j : ℕ) → 0 < j → j ≤ k
-        → value (drop (j - 1) (row k (block k msg) c)) x
-        ≡ add (getD (header (length msg) ++ msg) (c * k + (j - 1)) 0) (mul x (value (drop j (row k (block k msg) c)) x))
-    row-next x j g l =
-        value-next (row k (block k msg) c) x j g (omega (arith, length-row))
-        ∙ ap (λ (b : ℕ). add b (mul x (value (drop j (row k (block k msg) c)) x))) (getD-row (j - 1) (omega arith))

@@ -11,7 +11,7 @@ use Rattle.field.specs.Field as G
 use Rattle.field.proofs.Laws as L
 use Rattle.field.specs.Tables.{inverse}
 use Rattle.field.proofs.Powers as P
-use Rattle.code.specs.Code.{All, Byte, value, count, Through}
+use Rattle.code.specs.Code.{All, Byte, value, numbersFrom, Through}
 use Rattle.code.proofs.Polynomials.{Field, Distinct, eval, unique, interp, interp-at, length-interp, ok-interp}
 
 abbrev pub bytes : Field ℕ
@@ -51,23 +51,23 @@ values-eval cs xs = map-same (value cs) (eval bytes cs) (value-eval cs) xs
 
 -- ---- the numbers 1 to k are different bytes
 
-pub length-count : (i n : ℕ) → length (count i n) ≡ n
-unfolding count
+pub length-count : (i n : ℕ) → length (numbersFrom i n) ≡ n
+unfolding numbersFrom
 length-count i zero = refl
 length-count i (suc n) = ap suc (length-count (suc i) n)
 
-pub bytes-count : (i n : ℕ) → i + n ≤ 256 → All Byte (count i n)
-unfolding count
+pub bytes-count : (i n : ℕ) → i + n ≤ 256 → All Byte (numbersFrom i n)
+unfolding numbersFrom
 bytes-count i zero h = tt
 bytes-count i (suc n) h = (omega arith, bytes-count (suc i) n (omega arith))
 
-later : (x i n : ℕ) → x < i → All (λ (y : ℕ). x ≢ y) (count i n)
-unfolding count
+later : (x i n : ℕ) → x < i → All (λ (y : ℕ). x ≢ y) (numbersFrom i n)
+unfolding numbersFrom
 later x i zero h = tt
 later x i (suc n) h = ((λ e. omega arith), later x (suc i) n (omega arith))
 
-pub distinct-count : (i n : ℕ) → Distinct (count i n)
-unfolding count
+pub distinct-count : (i n : ℕ) → Distinct (numbersFrom i n)
+unfolding numbersFrom
 distinct-count i zero = tt
 distinct-count i (suc n) = (later i (suc i) n (omega arith), distinct-count (suc i) n)
 
@@ -96,7 +96,7 @@ first k = record { poly = λ r. r; read = λ r. r; size = λ r l. l; okay = λ r
 -- the second edition: the row's bytes are the values at 1 .. k
 module _ (k : ℕ) (small : k ≤ 255) where
   xs : List ℕ
-  xs = count 1 k
+  xs = numbersFrom 1 k
 
   lx : (r : List ℕ) → length r ≡ k → length xs ≡ length r
   unfolding xs
@@ -104,7 +104,7 @@ module _ (k : ℕ) (small : k ≤ 255) where
 
   at : (r : List ℕ) → length r ≡ k → All Byte r → map (eval bytes (interp bytes xs r)) xs ≡ r
   unfolding xs
-  at r l h = interp-at bytes (count 1 k) r (lx r l) (distinct-count 1 k) (bytes-count 1 k (omega arith)) h
+  at r l h = interp-at bytes (numbersFrom 1 k) r (lx r l) (distinct-count 1 k) (bytes-count 1 k (omega arith)) h
 
   pub second : Edition k
   unfolding xs
@@ -122,7 +122,7 @@ module _ (k : ℕ) (small : k ≤ 255) where
   second-through r l h = record {
     size = length-interp bytes xs r (lx r l) ∙ lx r l;
     bytes = ok-interp bytes xs r h;
-    takes = ap (λ (n : ℕ). map (value (interp bytes xs r)) (count 1 n)) l ∙ values-eval (interp bytes xs r) xs ∙ at r l h;
+    takes = ap (λ (n : ℕ). map (value (interp bytes xs r)) (numbersFrom 1 n)) l ∙ values-eval (interp bytes xs r) xs ∙ at r l h;
   }
 
   pub second-only : (r p : List ℕ) → length r ≡ k → All Byte r → Through r p → p ≡ second .poly r
@@ -130,4 +130,4 @@ module _ (k : ℕ) (small : k ≤ 255) where
   second-only r p l h t =
       unique bytes xs p (interp bytes xs r) (lx r l ∙ sym (t .size)) (t .size ∙ sym (length-interp bytes xs r (lx r l) ∙ lx r l)) (distinct-count 1 k)
       (bytes-count 1 k (omega arith)) (t .bytes) (ok-interp bytes xs r h)
-      (sym (values-eval p xs) ∙ ap (λ (n : ℕ). map (value p) (count 1 n)) (sym l) ∙ t .takes ∙ sym (at r l h))
+      (sym (values-eval p xs) ∙ ap (λ (n : ℕ). map (value p) (numbersFrom 1 n)) (sym l) ∙ t .takes ∙ sym (at r l h))

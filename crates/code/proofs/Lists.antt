@@ -6,9 +6,9 @@ use mathlib.Core.Bool.{true, false}
 use mathlib.Core.List.{List, [], _∷_, _++_, map}
 use Prim.Native.Nat.{ℕ, zero, suc, _+_, _*_, _-_, min, _<_, _≤_}
 use native.Mathlib.Omega.{arith}
-use lib.ListN.{length, getD, take, drop, length-map, length-take, length-drop}
-use lib.Seq.{ext-getD, getD-take, getD-drop, drop-at, take-at, length-take-le}
-use borrow.Rule.Slice.PartMut.{putMid, postOf, drop-put}
+use lib.ListN.{length, getD, take, drop, length-take}
+use lib.Seq.{getD-take, drop-at, take-at, length-take-le}
+use borrow.Rule.Slice.PartMut.{putMid, postOf}
 use Rattle.code.specs.Code.{All, Apart}
 use Rattle.code.proofs.Polynomials.{Distinct}
 
@@ -19,10 +19,6 @@ pub getD-map : (f : ℕ → ℕ) (l : List ℕ) (i : ℕ) → i < length l → g
 getD-map f [] i h = absurd (omega arith)
 getD-map f (x ∷ l) zero h = refl
 getD-map f (x ∷ l) (suc i) h = getD-map f l i (omega arith)
-
--- a list that has f of another at each place
-pub is-map : (f : ℕ → ℕ) (l r : List ℕ) → length l ≡ length r → ((i : ℕ) → i < length r → getD r i 0 ≡ f (getD l i 0)) → r ≡ map f l
-is-map f l r e h = ext-getD 0 r (map f l) (sym e ∙ sym (length-map l f)) (λ i g. h i g ∙ sym (getD-map f l i (omega arith)))
 
 pub map-at : (f g : ℕ → ℕ) (l : List ℕ) → ((i : ℕ) → i < length l → f (getD l i 0) ≡ g (getD l i 0)) → map f l ≡ map g l
 map-at f g [] h = refl
@@ -51,31 +47,10 @@ within x s c size h g l = go (x - 1) (omega arith)
 
 -- ---- a part that is written
 
--- k places from a on, in two lists that agree before n
-pub part-same : (a k n : ℕ) (l m : List ℕ) → a + k ≤ n → length l ≡ length m → take n l ≡ take n m → take k (drop a l) ≡ take k (drop a m)
-part-same a k n l m h e t =
-    ext-getD 0 (take k (drop a l)) (take k (drop a m)) (simp (length-take, length-drop) (ap (λ (x : ℕ). min k (x - a)) e))
-    (λ i g. let b : i < k = omega (arith, length-take k (drop a l)) in
-    at l i b ∙ ap (λ (z : List ℕ). getD z (a + i) 0) t ∙ sym (at m i b))
-  where
-    at : (l : List ℕ) (i : ℕ) → i < k → getD (take k (drop a l)) i 0 ≡ getD (take n l) (a + i) 0
-    at l i b = getD-take k (drop a l) i 0 b ∙ getD-drop a l i 0 ∙ sym (getD-take n l (a + i) 0 (omega arith))
-
 -- the part itself
 pub part-put : (a k : ℕ) (l ys : List ℕ) → a + k ≤ length l → length ys ≡ k → take k (drop a (putMid a (a + k - a) l ys)) ≡ ys
 part-put a k l ys h e =
     ap (take k) (drop-at (take a l) (ys ++ postOf a (a + k - a) l) a (length-take-le a l (omega arith))) ∙ take-at ys (postOf a (a + k - a) l) k e
-
-pub part-after : (a k : ℕ) (l ys : List ℕ) (p : ℕ) → a + k ≤ length l → length ys ≡ k → a + k ≤ p → getD (putMid a (a + k - a) l ys) p 0 ≡ getD l p 0
-part-after a k l ys p h e g =
-    let n = putMid a (a + k - a) l ys in
-    let q : (a + k) + (p - (a + k)) ≡ p = omega arith in
-    ap (λ (i : ℕ). getD n i 0) (sym q) ∙ sym (getD-drop (a + k) n (p - (a + k)) 0)
-    ∙ ap (λ (z : List ℕ). getD z (p - (a + k)) 0) (drop-put a (a + k) l ys (omega arith) h (e ∙ back))
-    ∙ getD-drop (a + k) l (p - (a + k)) 0 ∙ ap (λ (i : ℕ). getD l i 0) q
-  where
-    back : k ≡ a + k - a
-    back = omega arith
 
 -- ---- parts of a list of bytes
 

@@ -1,20 +1,20 @@
 -- Reading a block: a message's own block gives it back, and what is read is at most L bytes long.
 -- Assumes nothing.
-use mathlib.Core.Path.{_≡_, refl, sym, ap, ap₂, _∙_}
-use mathlib.Core.Bool.{true, _&&_}
-use mathlib.Core.List.{List, [], _∷_, _++_, append-assoc}
+use mathlib.Core.Path.{_≡_, refl, sym, ap, _∙_}
+use mathlib.Core.Bool.{true}
+use mathlib.Core.List.{List, _++_, append-assoc}
 use Prim.Native.Nat.{ℕ, _+_, _-_, _*_, _/_, _%_, _<_, _≤_}
 use native.Mathlib.Nat as N
 use native.Mathlib.Omega.{arith}
 use borrow.Author.Tests.{le-leb, eq-eqb, leb-true, eqb-true}
 use lib.Dec.{leb, eqb}
-use lib.ListN.{length, getD, replicate, length-append, length-take, length-drop, take, drop}
-use lib.Seq.{take-at, drop-at}
-use Rattle.octets.specs.Bytes.{fourAt, twoAt, part, four}
+use lib.ListN.{length, replicate, take, drop}
+use lib.Seq.{take-at}
+use Rattle.octets.specs.Bytes.{fourAt, part}
 use Rattle.octets.proofs.Laws.{length-part}
 use Rattle.octets.proofs.Picks.{and-l, and-r, and-on}
 use Rattle.code.specs.Code.{All, Byte}
-use Rattle.code.specs.Block.{header, rows, block, readable, messageIn}
+use Rattle.code.specs.Block.{header, rows, block, readable, blockMessage}
 use Rattle.code.proofs.Blocks.{enough, length-block}
 use Rattle.code.proofs.Lists.{all-take, all-drop}
 
@@ -42,8 +42,8 @@ module _ (k : ℕ) (pos : 0 < k) (msg : List ℕ) (short : length msg ≤ 16384)
       let fits' : fourAt (block k msg) 0 ≤ longest = N.le-trans (N.le-of-eq block-length-field) fits in
       and-on _ _ (le-leb _ _ four-more) (and-on _ _ (eq-eqb _ _ whole) (and-on _ _ (le-leb _ _ fits') (eq-eqb _ _ rows-given)))
 
-  pub block-message : messageIn (block k msg) ≡ msg
-  unfolding messageIn part block header
+  pub block-message : blockMessage (block k msg) ≡ msg
+  unfolding blockMessage part block header
   block-message =
       ap (λ (n : ℕ). take n (drop 4 (block k msg))) block-length-field
       ∙ take-at msg (replicate (rows k (length msg) * k - (4 + length msg)) 0) (length msg) refl
@@ -53,10 +53,10 @@ pub record Readable (k longest : ℕ) (b : List ℕ) : Type 0 where
   pub fits : fourAt b 0 ≤ longest
   pub whole : length b ≡ rows k (fourAt b 0) * k
   pub inside : 4 + fourAt b 0 ≤ length b
-  pub size : length (messageIn b) ≡ fourAt b 0
+  pub size : length (blockMessage b) ≡ fourAt b 0
 
 pub readable-facts : (k longest : ℕ) (b : List ℕ) → 0 < k → readable k longest b ≡ true → Readable k longest b
-unfolding readable messageIn rows
+unfolding readable blockMessage rows
 readable-facts k longest b pos h =
     let h1 = and-r (leb 4 (length b)) _ h in
     let h2 = and-r (eqb (length b % k) 0) _ h1 in
@@ -83,6 +83,6 @@ unfolding readable
 readable-four k longest b h = leb-true _ _ (and-l (leb 4 (length b)) _ h)
 
 -- what is read is bytes where the block is
-pub message-bytes : (b : List ℕ) → All Byte b → All Byte (messageIn b)
-unfolding messageIn part
+pub message-bytes : (b : List ℕ) → All Byte b → All Byte (blockMessage b)
+unfolding blockMessage part
 message-bytes b h = all-take Byte (fourAt b 0) (drop 4 b) (all-drop Byte 4 b h)

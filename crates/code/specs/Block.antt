@@ -25,5 +25,5 @@ readable k longest b =
     leb 4 (length b) && (eqb (length b % k) 0 && (leb (fourAt b 0) longest && eqb (rows k (fourAt b 0)) (length b / k)))
 
 -- "Otherwise the message is the bytes after the length; bytes after it are not looked at"
-unfoldable pub messageIn : List ℕ → List ℕ
-messageIn b = part 4 (fourAt b 0) b
+unfoldable pub blockMessage : List ℕ → List ℕ
+blockMessage b = part 4 (fourAt b 0) b

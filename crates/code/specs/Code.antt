@@ -37,12 +37,12 @@ unfoldable pub fragmentOf : ℕ → List ℕ → ℕ → List ℕ
 fragmentOf k block i = tab (length block / k) (fragmentByte k block i)
 
 -- i, i + 1, .. : n numbers
-unfoldable pub count : ℕ → ℕ → List ℕ
-count i zero = []
-count i (suc n) = i ∷ count (suc i) n
+unfoldable pub numbersFrom : ℕ → ℕ → List ℕ
+numbersFrom i zero = []
+numbersFrom i (suc n) = i ∷ numbersFrom (suc i) n
 
 -- the second edition of the code (document 02, request 11): p is the polynomial of degree below k whose values at 1 .. k are the row's bytes
 pub record Through (r p : List ℕ) : Type 0 where
   pub size : length p ≡ length r
   pub bytes : All Byte p
-  pub takes : map (value p) (count 1 (length r)) ≡ r
+  pub takes : map (value p) (numbersFrom 1 (length r)) ≡ r

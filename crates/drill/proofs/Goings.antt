@@ -8,20 +8,19 @@ use borrow.Author.Tests.{lt-ltb, le-ltb}
 use lib.ListN.{length, drop, length-append, length-drop}
 use Rattle.octets.specs.Bytes.{pick, put}
 use Rattle.octets.proofs.Laws.{put-next, length-put}
-use Rattle.boards.specs.declared.Table.{Table}
-use Rattle.words.specs.Words.{upto, past}
-use Rattle.script.specs.declared.Breakers.{Breakers}
-use Rattle.script.specs.Lines.{rightStep}
-use Rattle.slots.specs.Held.{Boards}
-use Rattle.desk.specs.Boards.{turnOf}
-use Rattle.slots.specs.Room.{boardsIn}
-use Rattle.desk.specs.Asked.{Room}
-use Rattle.printing.specs.Text.{lineText, bad}
-use Rattle.opening.specs.Opened.{lineRight}
+use Rattle.table.specs.declared.Table.{Table}
+use Rattle.drill_words.specs.Words.{upto, past}
+use Rattle.drill_lines.specs.declared.Breakers.{Breakers}
+use Rattle.drill_lines.specs.Lines.{rightStep}
+use Rattle.drill_boards.specs.Held.{Boards}
+use Rattle.drill_step.specs.Boards.{turnOf}
+use Rattle.drill_boards.specs.Room.{boardsIn}
+use Rattle.drill_step.specs.Asked.{DrillRoom}
+use Rattle.drill_print.specs.Text.{lineText, bad}
+use Rattle.drill_open.specs.Opened.{lineRight}
 use Rattle.drill.specs.Drill.{stepsFrom}
-use Rattle.printing.specs.Printed.{Printed}
+use Rattle.drill_print.specs.Printed.{Printed}
 use Rattle.drill.specs.Asked.{Stepped}
-use Rattle.drill.proofs.Nexts.{not-right, is-right}
 
 -- with `left` printed from p on in t, `whole` is printed from p₀ on in t₀
 pub record Going (whole : List ℕ) (p₀ : ℕ) (t₀ left : List ℕ) (p : ℕ) (t : List ℕ) : Type 0 where
@@ -29,24 +28,24 @@ pub record Going (whole : List ℕ) (p₀ : ℕ) (t₀ left : List ℕ) (p : ℕ
   pub ends-at : p + length left ≡ p₀ + length whole
   pub long : length t ≡ length t₀
 
-pub going-start : (v : List ℕ) (p : ℕ) (t : List ℕ) → Going v p t v p t
+going-start : (v : List ℕ) (p : ℕ) (t : List ℕ) → Going v p t v p t
 going-start v p t = record { text-left = refl; ends-at = refl; long = refl }
 
 module _ (whole : List ℕ) (p₀ : ℕ) (t₀ : List ℕ) (p : ℕ) (t t′ : List ℕ) (q : ℕ) where
-  pub going-more : (left v w : List ℕ) → left ≡ v ++ w → Going whole p₀ t₀ left p t → Printed v p t t′ q → Going whole p₀ t₀ w q t′
+  going-more : (left v w : List ℕ) → left ≡ v ++ w → Going whole p₀ t₀ left p t → Printed v p t t′ q → Going whole p₀ t₀ w q t′
   going-more left v w e g x = record {
     text-left = ap (put q w) (x .text-is) ∙ put-next v w t p q (x .ends) ∙ ap (λ (l : List ℕ). put p l t) (sym e) ∙ g .text-left;
     ends-at = omega (arith, x .ends, g .ends-at, length-append v w, ap length e);
     long = ap length (x .text-is) ∙ length-put p v t ∙ g .long;
   }
 
-  pub going-end : (left v : List ℕ) → left ≡ v → Going whole p₀ t₀ left p t → Printed v p t t′ q → Printed whole p₀ t₀ t′ q
+  going-end : (left v : List ℕ) → left ≡ v → Going whole p₀ t₀ left p t → Printed v p t t′ q → Printed whole p₀ t₀ t′ q
   going-end left v e g x = record {
     text-is = x .text-is ∙ ap (λ (l : List ℕ). put p l t) (sym e) ∙ g .text-left;
     ends = omega (arith, x .ends, g .ends-at, ap length e);
   }
 
-pub going-none : (whole : List ℕ) (p₀ : ℕ) (t₀ left : List ℕ) (p : ℕ) (t : List ℕ) → left ≡ [] → Going whole p₀ t₀ left p t → Printed whole p₀ t₀ t p
+going-none : (whole : List ℕ) (p₀ : ℕ) (t₀ left : List ℕ) (p : ℕ) (t : List ℕ) → left ≡ [] → Going whole p₀ t₀ left p t → Printed whole p₀ t₀ t p
 unfolding put
 going-none whole p₀ t₀ left p t e g = record {
   text-is = ap (λ (l : List ℕ). put p l t) (sym e) ∙ g .text-left;
@@ -54,28 +53,28 @@ going-none whole p₀ t₀ left p t e g = record {
 }
 
 module _ (b : Table) (x : Breakers) (message : List ℕ) (n k : ℕ) (rest : List ℕ) (B : Boards) where
-  pub steps-bad : (m : ℕ) → n ≡ suc m → lineRight (rightStep b x) rest ≡ false → stepsFrom b x message n k rest B ≡ bad (k + 4)
-  unfolding stepsFrom
-  steps-bad m e h = rw e (not-right (rightStep b x) (k + 4) rest _ h)
+  steps-bad : (m : ℕ) → n ≡ suc m → lineRight (rightStep b x) rest ≡ false → stepsFrom b x message n k rest B ≡ bad (k + 4)
+  unfolding stepsFrom pick
+  steps-bad m e h = rw (e, h)
 
-  pub steps-more : (m : ℕ) → n ≡ suc m → lineRight (rightStep b x) rest ≡ true → (more : List ℕ) (B′ : Boards) → more ≡ past 10 rest
+  steps-more : (m : ℕ) → n ≡ suc m → lineRight (rightStep b x) rest ≡ true → (more : List ℕ) (B′ : Boards) → more ≡ past 10 rest
       → B′ ≡ turnOf b message B (upto 10 rest) .boards
       → stepsFrom b x message n k rest B
       ≡ lineText k (upto 10 rest) (turnOf b message B (upto 10 rest) .shown) (turnOf b message B (upto 10 rest) .message) ++ stepsFrom b x message m (k + 1) more B′
-  unfolding stepsFrom
-  steps-more m e h more B′ em eb = rw (e, em, eb) (is-right (rightStep b x) (k + 4) rest _ h)
+  unfolding stepsFrom pick
+  steps-more m e h more B′ em eb = rw (e, em, eb, h)
 
-  pub steps-over : n ≡ 0 → 0 < length rest → stepsFrom b x message n k rest B ≡ bad (k + 4)
+  steps-over : n ≡ 0 → 0 < length rest → stepsFrom b x message n k rest B ≡ bad (k + 4)
   unfolding stepsFrom pick
   steps-over e h = rw (e, lt-ltb 0 (length rest) h)
 
-  pub steps-done : n ≡ 0 → length rest ≤ 0 → stepsFrom b x message n k rest B ≡ []
+  steps-done : n ≡ 0 → length rest ≤ 0 → stepsFrom b x message n k rest B ≡ []
   unfolding stepsFrom pick
   steps-done e h = rw (e, le-ltb 0 (length rest) h)
 
 -- buffers of the same lengths
-pub room-kept : {s k h o d s′ k′ h′ o′ d′ : List ℕ} → Room s k h o d
-    → length s′ ≡ length s → length k′ ≡ length k → length h′ ≡ length h → length o′ ≡ length o → length d′ ≡ length d → Room s′ k′ h′ o′ d′
+pub room-kept : {s k h o d s′ k′ h′ o′ d′ : List ℕ} → DrillRoom s k h o d
+    → length s′ ≡ length s → length k′ ≡ length k → length h′ ≡ length h → length o′ ≡ length o → length d′ ≡ length d → DrillRoom s′ k′ h′ o′ d′
 room-kept r es ek eh eo ed = record {
   states-long = es ∙ r .states-long;
   kept-long = ek ∙ r .kept-long;
@@ -87,7 +86,7 @@ room-kept r es ek eh eo ed = record {
 -- before step k: the lent buffers, the place in the input, and what is still to be printed
 pub record Run (b : Table) (x : Breakers) (message : List ℕ) (count : ℕ) (input : List ℕ) (start : ℕ) (B : Boards) (text₀ : List ℕ) (from : ℕ)
     (states kept handed out delivery text : List ℕ) (k at p : ℕ) : Type 0 where
-  pub room : Room states kept handed out delivery
+  pub room : DrillRoom states kept handed out delivery
   pub at-in : at ≤ length input
   pub k-one : 1 ≤ k
   pub k-few : k ≤ count + 1
@@ -95,7 +94,7 @@ pub record Run (b : Table) (x : Breakers) (message : List ℕ) (count : ℕ) (in
   pub going : Going (stepsFrom b x message count 1 (drop start input) B) from text₀ (stepsFrom b x message (count + 1 - k) k (drop at input) (boardsIn states kept)) p text
 
 module _ (b : Table) (x : Breakers) (message : List ℕ) (count : ℕ) (input : List ℕ) (start : ℕ) where
-  pub run-start : (states kept handed out delivery text : List ℕ) (from : ℕ) → Room states kept handed out delivery → start ≤ length input
+  pub run-start : (states kept handed out delivery text : List ℕ) (from : ℕ) → DrillRoom states kept handed out delivery → start ≤ length input
       → Run b x message count input start (boardsIn states kept) text from states kept handed out delivery text 1 start from
   run-start states kept handed out delivery text from r h = record {
     room = r;
@@ -122,7 +121,7 @@ module _ (b : Table) (x : Breakers) (message : List ℕ) (count : ℕ) (input : 
 
     pub run-more : (states′ kept′ handed′ out′ delivery′ text′ : List ℕ) (at′ q : ℕ) → k ≤ count → lineRight (rightStep b x) (drop at input) ≡ true
         → Stepped b message k (upto 10 (drop at input)) (boardsIn states kept) (boardsIn states′ kept′) p text text′ q → q ≤ p + 154
-        → drop at′ input ≡ past 10 (drop at input) → at′ ≤ length input → Room states′ kept′ handed′ out′ delivery′
+        → drop at′ input ≡ past 10 (drop at input) → at′ ≤ length input → DrillRoom states′ kept′ handed′ out′ delivery′
         → Run b x message count input start B text₀ from states′ kept′ handed′ out′ delivery′ text′ (k + 1) at′ q
     run-more states′ kept′ handed′ out′ delivery′ text′ at′ q h e w few d m o = record {
       room = o;

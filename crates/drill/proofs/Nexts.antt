@@ -1,36 +1,22 @@
--- The next line of the input, and what a right step gives.
+-- What a right step gives.
 use mathlib.Core.Path.{_≡_, ap}
 use Prim.Native.Nat.{ℕ, _-_}
 use mathlib.Core.List.{List}
-use mathlib.Core.Bool.{Bool, true, false}
+use mathlib.Core.Bool.{true}
 use borrow.Author.Tests.{leb-true}
 use lib.ListN.{length}
-use Rattle.octets.specs.Bytes.{pick}
 use Rattle.octets.proofs.Picks.{and-l, and-r}
-use Rattle.boards.specs.declared.Table.{Table}
-use Rattle.state.specs.Sound.{isBoard}
-use Rattle.words.specs.Words.{upto, past}
-use Rattle.script.specs.declared.Breakers.{Breakers}
-use Rattle.script.specs.Lines.{fits, kindIn, fromIn, toIn, rightKind, rightWords, rightBoards, rightStep}
-use Rattle.printing.specs.declared.Shown.{Shown}
-use Rattle.slots.specs.Held.{Boards}
-use Rattle.desk.specs.Boards.{Turn, turn, turnOf}
-use Rattle.desk.specs.Asked.{Handing}
-use Rattle.printing.specs.Text.{lineText, bad}
-use Rattle.opening.specs.Opened.{lineRight}
-use Rattle.drill.specs.Drill.{onLine}
-use Rattle.printing.specs.Printed.{Printed}
+use Rattle.table.specs.declared.Table.{Table}
+use Rattle.table.specs.Table.{isBoard}
+use Rattle.drill_lines.specs.declared.Breakers.{Breakers}
+use Rattle.drill_lines.specs.Lines.{fits, kindIn, fromIn, toIn, rightKind, rightWords, rightBoards, rightStep}
+use Rattle.drill_print.specs.declared.Shown.{Shown}
+use Rattle.drill_boards.specs.Held.{Boards}
+use Rattle.drill_step.specs.Boards.{Turn, turn, turnOf}
+use Rattle.drill_step.specs.Asked.{Handing}
+use Rattle.drill_print.specs.Text.{lineText}
+use Rattle.drill_print.specs.Printed.{Printed}
 use Rattle.drill.specs.Asked.{Stepped, Fitting}
-
--- a line that is not right, and one that is
-module _ (right : List ℕ → Bool) (number : ℕ) (rest : List ℕ) (next : List ℕ → List ℕ → List ℕ) where
-  pub not-right : lineRight right rest ≡ false → onLine right number rest next ≡ bad number
-  unfolding onLine pick
-  not-right e = rw e
-
-  pub is-right : lineRight right rest ≡ true → onLine right number rest next ≡ next (upto 10 rest) (past 10 rest)
-  unfolding onLine pick
-  is-right e = rw e
 
 -- a right step can be handed over
 pub handing : (b : Table) (x : Breakers) (message l kept : List ℕ) → Fitting b message → rightStep b x l ≡ true → length kept ≡ 14336

@@ -8,62 +8,33 @@ use borrow.Author.Tests.{leb-true, ltb-false, eq-eqb, ne-eqb}
 use lib.Dec.{leb, ltb, eqb}
 use lib.ListN.{length, take, drop}
 use lib.Seq.{sets-eq}
+use Rattle.record.specs.Form.{outBytes}
 use Rattle.octets.specs.Bytes.{pick, put}
 use Rattle.octets.proofs.Picks.{pick-on, pick-off, and-l, and-r, or-none-l, or-none-r}
-use Rattle.boards.specs.Table.{limits}
-use Rattle.boards.specs.declared.Table.{Table}
-use Rattle.words.specs.Words.{upto, past, word}
-use Rattle.words.proofs.Counting.{bytes-length}
-use Rattle.script.specs.declared.Breakers.{Breakers}
-use Rattle.script.specs.Lines.{form, tableIn, rightTable, breakersIn, rightBreakers, messageIn, rightMessage, countIn, rightCount}
-use Rattle.opening.specs.declared.Opening.{Opening}
-use Rattle.opening.specs.Opened.{Begin, wrong, begins, lineRight, opening4, opening3, opening2, opening1}
-use Rattle.opening.specs.Said.{saidBy}
-use Rattle.opening.proofs.Nexts.{right-line}
-use Rattle.opening.proofs.Opens.{message-few}
-use Rattle.printing.specs.Text.{heading, bad}
-use Rattle.printing.specs.Printed.{Printed}
-use Rattle.printing.proofs.Prints.{then, put-printed}
-use Rattle.slots.specs.Held.{Boards, zeros}
-use Rattle.desk.specs.Boards.{fresh}
-use Rattle.desk.specs.Asked.{Small}
-use Rattle.slots.proofs.Zeros.{zeros-length}
-use Rattle.drill.specs.Drill.{onLine, stepsFrom, fromLine4, fromLine3, fromLine2, fromLine1, drillOf}
-use Rattle.drill.specs.Call.{Lent, lent, isShort, leftBy, drilled, drillOut, callOf}
-use Rattle.drill.specs.Asked.{Opens, Fitting, Ended, Long, Left}
+use Rattle.table.specs.Table.{limits}
+use Rattle.table.specs.declared.Table.{Table}
+use Rattle.drill_words.specs.Words.{upto, past, word}
+use Rattle.drill_words.proofs.Counting.{bytes-length}
+use Rattle.drill_lines.specs.declared.Breakers.{Breakers}
+use Rattle.drill_lines.specs.Lines.{form, tableIn, rightTable, breakersIn, rightBreakers, messageIn, rightMessage, countIn, rightCount}
+use Rattle.drill_open.specs.declared.Opening.{Opening}
+use Rattle.drill_open.specs.Opened.{Begin, wrong, begins, lineRight, opening4, opening3, opening2, opening1}
+use Rattle.drill_open.specs.Said.{openedBy}
+use Rattle.drill_open.proofs.Nexts.{right-line}
+use Rattle.drill_open.proofs.Opens.{message-few}
+use Rattle.drill_print.specs.Text.{heading, bad}
+use Rattle.drill_print.specs.Printed.{Printed}
+use Rattle.drill_print.proofs.Prints.{then, put-printed}
+use Rattle.drill_boards.specs.Held.{Boards, zeros}
+use Rattle.drill_step.specs.Boards.{fresh}
+use Rattle.drill_step.specs.Asked.{Small}
+use Rattle.drill_boards.proofs.Zeros.{zeros-length}
+use Rattle.drill.specs.Drill.{stepsFrom, printedBy, drillOf}
+use Rattle.octets.specs.Answers.{sized}
+use Rattle.drill.specs.Call.{Lent, lent, drillShort, drillLeftBy, drillOut, callOf}
+use Rattle.drill.specs.Asked.{Opens, Fitting, Ended, Long, DrillLeft}
 
 -- ---- the four lines
-
--- what is printed after them
-printedBy : Begin → List ℕ
-printedBy (wrong n) = bad n
-printedBy (begins b x message count rest) = stepsFrom b x message count 1 rest (fresh b)
-
-by-case : (c : Bool) (number : ℕ) (v : List ℕ) (a : Begin) → v ≡ printedBy a → pick c v (bad number) ≡ printedBy (pick c a (wrong number))
-unfolding pick printedBy
-by-case true number v a e = e
-by-case false number v a e = refl
-
-on-opening : (right : List ℕ → Bool) (number : ℕ) (rest : List ℕ) (next : List ℕ → List ℕ → List ℕ) (a : Begin)
-    → next (upto 10 rest) (past 10 rest) ≡ printedBy a → onLine right number rest next ≡ printedBy (pick (lineRight right rest) a (wrong number))
-unfolding onLine
-on-opening right number rest next a e = by-case (lineRight right rest) number (next (upto 10 rest) (past 10 rest)) a e
-
-line4-opens : (b : Table) (x : Breakers) (message rest : List ℕ) → fromLine4 b x message rest ≡ printedBy (opening4 b x message rest)
-unfolding fromLine4 opening4 printedBy
-line4-opens b x message rest = on-opening rightCount 4 rest _ _ refl
-
-line3-opens : (b : Table) (x : Breakers) (rest : List ℕ) → fromLine3 b x rest ≡ printedBy (opening3 b x rest)
-unfolding fromLine3 opening3
-line3-opens b x rest = on-opening (rightMessage b) 3 rest _ _ (line4-opens b x _ _)
-
-line2-opens : (b : Table) (rest : List ℕ) → fromLine2 b rest ≡ printedBy (opening2 b rest)
-unfolding fromLine2 opening2
-line2-opens b rest = on-opening (rightBreakers b) 2 rest _ _ (line3-opens b _ _)
-
-line1-opens : (rest : List ℕ) → fromLine1 rest ≡ printedBy (opening1 rest)
-unfolding fromLine1 opening1
-line1-opens rest = on-opening rightTable 1 rest _ _ (line2-opens _ _)
 
 -- all four are right
 all-right : (c : Bool) (n : ℕ) (a : Begin) (b : Table) (x : Breakers) (m : List ℕ) (k : ℕ) (rest : List ℕ) → pick c a (wrong n) ≡ begins b x m k rest
@@ -127,29 +98,29 @@ module _ (b : Table) (x : Breakers) (m : List ℕ) (k : ℕ) (more : List ℕ) w
 -- what an answer of the opening gives
 module _ (o : Opening) (message input : List ℕ) (w : Opens o message input) where
   says-right : o .bad ≡ 0 → opening1 input ≡ begins (o .table) (o .breakers) (take (o .size) message) (o .count) (drop (o .at) input)
-  unfolding saidBy
+  unfolding openedBy
   says-right e = sym (w .says) ∙ sym (pick-on (eqb (o .bad) 0) _ _ _ (eq-eqb (o .bad) 0 e) refl)
 
   says-wrong : (o .bad ≡ 0 → ⊥) → opening1 input ≡ wrong (o .bad)
-  unfolding saidBy
+  unfolding openedBy
   says-wrong n = sym (w .says) ∙ sym (pick-off (eqb (o .bad) 0) _ _ _ (ne-eqb (o .bad) 0 n) refl)
 
   pub opened-fits : o .bad ≡ 0 → Fitting (o .table) (take (o .size) message) × (o .count ≤ 1000)
   opened-fits e = right1 (o .table) (o .breakers) (take (o .size) message) (o .count) (drop (o .at) input) input (says-right e)
 
   module _ (p : ℕ) (old new : List ℕ) (q : ℕ) where
-    pub opened-bad : (o .bad ≡ 0 → ⊥) → Printed (bad (o .bad)) p old new q → Printed (fromLine1 input) p old new q
+    pub opened-bad : (o .bad ≡ 0 → ⊥) → Printed (bad (o .bad)) p old new q → Printed (printedBy (opening1 input)) p old new q
     unfolding printedBy
-    opened-bad n v = rw (line1-opens input ∙ ap printedBy (says-wrong n)) v
+    opened-bad n v = rw (ap printedBy (says-wrong n)) v
 
     pub opened-steps : o .bad ≡ 0 → (B : Boards) → B ≡ fresh (o .table)
-        → Printed (stepsFrom (o .table) (o .breakers) (take (o .size) message) (o .count) 1 (drop (o .at) input) B) p old new q → Printed (fromLine1 input) p old new q
+        → Printed (stepsFrom (o .table) (o .breakers) (take (o .size) message) (o .count) 1 (drop (o .at) input) B) p old new q → Printed (printedBy (opening1 input)) p old new q
     unfolding printedBy
-    opened-steps e B g v = rw (line1-opens input ∙ ap printedBy (says-right e), ← g) v
+    opened-steps e B g v = rw (ap printedBy (says-right e), ← g) v
 
 -- ---- the whole
 
-pub heading-then : (input old mid new : List ℕ) (q : ℕ) → mid ≡ put 0 heading old → Printed (fromLine1 input) 37 mid new q → Printed (drillOf input) 0 old new q
+pub heading-then : (input old mid new : List ℕ) (q : ℕ) → mid ≡ put 0 heading old → Printed (printedBy (opening1 input)) 37 mid new q → Printed (drillOf input) 0 old new q
 unfolding drillOf heading
 heading-then input old mid new q e w = then (put-printed heading old mid 0 37 e refl) w
 
@@ -160,49 +131,49 @@ front-put n xs ys l h =
     let q : 0 + length ys ≡ n = omega arith in
     sym (sets-eq ys xs 0 (omega arith) ∙ ap (λ (m : ℕ). ys ++ drop m xs) q)
 
-pub front-zeros : (n : ℕ) (xs ys : List ℕ) → ys ≡ zeros n → n ≤ length xs → ys ++ drop n xs ≡ put 0 (zeros n) xs
+front-zeros : (n : ℕ) (xs ys : List ℕ) → ys ≡ zeros n → n ≤ length xs → ys ++ drop n xs ≡ put 0 (zeros n) xs
 front-zeros n xs ys e h = front-put n xs ys (ap length e ∙ zeros-length n) h ∙ ap (λ (v : List ℕ). put 0 v xs) e
 
-pub long-enough : (b : Lent) → isShort b ≡ false → Long b
-unfolding isShort
+pub long-enough : (b : Lent) → drillShort b ≡ false → Long b
+unfolding drillShort
 long-enough b e =
     let e1 = or-none-r (ltb (length (b .message)) 64) _ e in
     let e2 = or-none-r (ltb (length (b .states)) 35588) _ e1 in
     let e3 = or-none-r (ltb (length (b .kept)) 14336) _ e2 in
-    let e4 = or-none-r (ltb (length (b .handed)) 16619) _ e3 in
-    let e5 = or-none-r (ltb (length (b .out)) 16619) _ e4 in
+    let e4 = or-none-r (ltb (length (b .handed)) outBytes) _ e3 in
+    let e5 = or-none-r (ltb (length (b .out)) outBytes) _ e4 in
     record {
       message-long = ltb-false (length (b .message)) 64 (or-none-l (ltb (length (b .message)) 64) _ e);
       states-long = ltb-false (length (b .states)) 35588 (or-none-l (ltb (length (b .states)) 35588) _ e1);
       kept-long = ltb-false (length (b .kept)) 14336 (or-none-l (ltb (length (b .kept)) 14336) _ e2);
-      handed-long = ltb-false (length (b .handed)) 16619 (or-none-l (ltb (length (b .handed)) 16619) _ e3);
-      out-long = ltb-false (length (b .out)) 16619 (or-none-l (ltb (length (b .out)) 16619) _ e4);
+      handed-long = ltb-false (length (b .handed)) outBytes (or-none-l (ltb (length (b .handed)) outBytes) _ e3);
+      out-long = ltb-false (length (b .out)) outBytes (or-none-l (ltb (length (b .out)) outBytes) _ e4);
       delivery-long = ltb-false (length (b .delivery)) 64 (or-none-l (ltb (length (b .delivery)) 64) _ e5);
       text-long = ltb-false (length (b .text)) 154051 (or-none-r (ltb (length (b .delivery)) 64) _ e5);
     }
 
-pub call-refused : (input : List ℕ) (b : Lent) → isShort b ≡ true → drillOut (drilled 2 0) b ≡ callOf input b
+pub call-refused : (input : List ℕ) (b : Lent) → drillShort b ≡ true → drillOut (sized 2 0) b ≡ callOf input b
 unfolding callOf pick
 call-refused input b e = rw e
 
-pub call-made : (input : List ℕ) (b b′ : Lent) (q : ℕ) → isShort b ≡ false → Left input q b b′ → drillOut (drilled 0 q) b′ ≡ callOf input b
+pub call-made : (input : List ℕ) (b b′ : Lent) (q : ℕ) → drillShort b ≡ false → DrillLeft input q b b′ → drillOut (sized 0 q) b′ ≡ callOf input b
 unfolding callOf pick
 call-made input b b′ q e w = rw (e, w .left-is, w .length-is)
 
 -- what is left, put together
 pub all-left : (input : List ℕ) (b : Lent) → Long b → (text′ : List ℕ) (q : ℕ) (message′ states′ kept′ handed′ out′ delivery′ : List ℕ)
     → Ended (drillOf input) (b .text) text′ q message′ states′ kept′ handed′ out′ delivery′
-    → Left input q b (lent (message′ ++ drop 64 (b .message)) (states′ ++ drop 35588 (b .states)) (kept′ ++ drop 14336 (b .kept))
-    (handed′ ++ drop 16619 (b .handed)) (out′ ++ drop 16619 (b .out)) (delivery′ ++ drop 64 (b .delivery)) text′)
-unfolding leftBy
+    → DrillLeft input q b (lent (message′ ++ drop 64 (b .message)) (states′ ++ drop 35588 (b .states)) (kept′ ++ drop 14336 (b .kept))
+    (handed′ ++ drop outBytes (b .handed)) (out′ ++ drop outBytes (b .out)) (delivery′ ++ drop 64 (b .delivery)) text′)
+unfolding drillLeftBy
 all-left input b l text′ q message′ states′ kept′ handed′ out′ delivery′ w = record {
   left-is =
       rw (
         front-zeros 64 (b .message) message′ (w .message-zero) (l .message-long),
         front-zeros 35588 (b .states) states′ (w .states-zero) (l .states-long),
         front-zeros 14336 (b .kept) kept′ (w .kept-zero) (l .kept-long),
-        front-zeros 16619 (b .handed) handed′ (w .handed-zero) (l .handed-long),
-        front-zeros 16619 (b .out) out′ (w .out-zero) (l .out-long),
+        front-zeros outBytes (b .handed) handed′ (w .handed-zero) (l .handed-long),
+        front-zeros outBytes (b .out) out′ (w .out-zero) (l .out-long),
         front-zeros 64 (b .delivery) delivery′ (w .delivery-zero) (l .delivery-long),
         w .printed .text-is,
       );

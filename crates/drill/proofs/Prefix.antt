@@ -2,28 +2,27 @@
 use mathlib.Core.Path.{_≡_, refl, sym, ap, _∙_}
 use Prim.Native.Nat.{ℕ, zero, suc, _+_, _-_, _*_, _≤_, _<_}
 use mathlib.Core.List.{List, [], _∷_, _++_}
-use mathlib.Core.Bool.{Bool, true, false, _&&_}
+use mathlib.Core.Bool.{Bool, true, false}
 use mathlib.Core.Logic.{⊎-elim}
 use native.Mathlib.Omega.{arith}
-use borrow.Author.Tests.{lt-ltb, le-ltb, leb-true}
+use borrow.Author.Tests.{lt-ltb, leb-true}
 use lib.Dec.{eqb, ltb, leb}
-use lib.ListN.{length, take, length-take}
-use lib.Seq.{take-nil, length-take-le}
+use lib.ListN.{length, take}
+use lib.Seq.{take-nil}
 use Rattle.octets.specs.Bytes.{pick}
 use Rattle.octets.proofs.Picks.{and-l, and-r}
 use Rattle.octets.proofs.Walk.{lt-or-le}
-use Rattle.boards.specs.declared.Table.{Table}
-use Rattle.words.specs.Words.{upto, past, word}
-use Rattle.words.specs.Numbers.{numberOf}
-use Rattle.words.proofs.Finding.{short}
-use Rattle.script.specs.declared.Breakers.{Breakers}
-use Rattle.script.specs.Lines.{fits, spaces, form, spacesFor, tableIn, rightTable, breakersIn, rightBreakers, messageIn, rightMessage, countIn, rightCount, rightStep}
-use Rattle.slots.specs.Held.{Boards}
-use Rattle.desk.specs.Boards.{fresh, turnOf}
-use Rattle.printing.specs.Text.{heading, lineText, bad}
-use Rattle.opening.proofs.Nexts.{right-line}
-use Rattle.opening.specs.Opened.{lineRight}
-use Rattle.drill.specs.Drill.{onLine, stepsFrom, fromLine4, fromLine3, fromLine2, fromLine1, drillOf}
+use Rattle.table.specs.declared.Table.{Table}
+use Rattle.drill_words.specs.Words.{upto, past, word}
+use Rattle.drill_words.specs.Numbers.{numberOf}
+use Rattle.drill_lines.specs.declared.Breakers.{Breakers}
+use Rattle.drill_lines.specs.Lines.{fits, spaces, form, spacesFor, tableIn, rightTable, breakersIn, rightBreakers, messageIn, rightMessage, countIn, rightCount, rightStep}
+use Rattle.drill_boards.specs.Held.{Boards}
+use Rattle.drill_step.specs.Boards.{fresh, turnOf}
+use Rattle.drill_print.specs.Text.{heading, lineText, bad}
+use Rattle.drill_open.proofs.Nexts.{right-line}
+use Rattle.drill_open.specs.Opened.{Begin, wrong, begins, lineRight, opening4, opening3, opening2, opening1}
+use Rattle.drill.specs.Drill.{stepsFrom, printedBy, drillOf}
 
 -- ---- a line within the first m bytes
 
@@ -84,6 +83,15 @@ false-unless : (c : Bool) → (c ≡ true → ⊥) → c ≡ false
 false-unless true h = absurd (h refl)
 false-unless false h = refl
 
+-- what follows a line that is right, or that it is bad
+abbrev onLine : (List ℕ → Bool) → ℕ → List ℕ → (List ℕ → List ℕ → List ℕ) → List ℕ
+onLine right number rest next = pick (lineRight right rest) (next (upto 10 rest) (past 10 rest)) (bad number)
+
+printed-line : (c : Bool) (a : Begin) (n : ℕ) → printedBy (pick c a (wrong n)) ≡ pick c (printedBy a) (bad n)
+unfolding pick printedBy
+printed-line true a n = refl
+printed-line false a n = refl
+
 module _ (right : List ℕ → Bool) (brief : (l : List ℕ) → right l ≡ true → length l ≤ 1024) (rest : List ℕ) (m : ℕ) (room : 1025 ≤ m) where
   too-long : 1024 < length (upto 10 rest) → lineRight right (take m rest) ≡ lineRight right rest
   unfolding lineRight
@@ -104,7 +112,7 @@ module _ (right : List ℕ → Bool) (brief : (l : List ℕ) → right l ≡ tru
   module _ (number : ℕ) (next : List ℕ → List ℕ → List ℕ)
       (same : (l more : List ℕ) (n : ℕ) → right l ≡ true → m ≤ n + 1025 → next l (take n more) ≡ next l more) where
     on-case : (c : Bool) → lineRight right rest ≡ c → onLine right number (take m rest) next ≡ onLine right number rest next
-    unfolding onLine pick
+    unfolding pick
     on-case false e = rw (line-right-same, e)
     on-case true e =
         let r = right-line right rest e in
@@ -148,7 +156,8 @@ steps-same : (b : Table) (x : Breakers) (message : List ℕ) (n k m : ℕ) (rest
 unfolding stepsFrom
 steps-same b x message zero k m rest B h = ap (λ (c : Bool). pick c (bad (k + 4)) []) (some-left rest m (omega arith))
 steps-same b x message (suc n) k m rest B h =
-    on-same (rightStep b x) (step-brief b x) rest m (omega arith) (k + 4) _
+    on-same (rightStep b x) (step-brief b x) rest m (omega arith) (k + 4)
+    (λ l more. lineText k l (turnOf b message B l .shown) (turnOf b message B l .message) ++ stepsFrom b x message n (k + 1) more (turnOf b message B l .boards))
     (λ l more j r g.
     ap (λ (z : List ℕ). lineText k l (turnOf b message B l .shown) (turnOf b message B l .message) ++ z)
     (steps-same b x message n (k + 1) j more (turnOf b message B l .boards) (omega arith)))
@@ -157,25 +166,39 @@ few-steps : (l : List ℕ) → rightCount l ≡ true → countIn l ≤ 1000
 unfolding rightCount
 few-steps l e = leb-true (countIn l) 1000 (and-r (form l 0) _ e)
 
-line4-same : (b : Table) (x : Breakers) (message rest : List ℕ) (m : ℕ) → 1026026 ≤ m → fromLine4 b x message (take m rest) ≡ fromLine4 b x message rest
-unfolding fromLine4
+-- the four lines: what is printed by them is the same if what follows a right one is
+opens-same : (right : List ℕ → Bool) (brief : (l : List ℕ) → right l ≡ true → length l ≤ 1024) (number : ℕ) (rest : List ℕ) (m : ℕ) → 1025 ≤ m
+    → (next : List ℕ → List ℕ → Begin)
+    → ((l more : List ℕ) (n : ℕ) → right l ≡ true → m ≤ n + 1025 → printedBy (next l (take n more)) ≡ printedBy (next l more))
+    → printedBy (pick (lineRight right (take m rest)) (next (upto 10 (take m rest)) (past 10 (take m rest))) (wrong number))
+    ≡ printedBy (pick (lineRight right rest) (next (upto 10 rest) (past 10 rest)) (wrong number))
+opens-same right brief number rest m room next same =
+    printed-line (lineRight right (take m rest)) _ number ∙ on-same right brief rest m room number (λ l more. printedBy (next l more)) same
+    ∙ sym (printed-line (lineRight right rest) _ number)
+
+line4-same : (b : Table) (x : Breakers) (message rest : List ℕ) (m : ℕ) → 1026026 ≤ m
+    → printedBy (opening4 b x message (take m rest)) ≡ printedBy (opening4 b x message rest)
+unfolding opening4 printedBy
 line4-same b x message rest m h =
-    on-same rightCount count-brief rest m (omega arith) 4 _
+    opens-same rightCount count-brief 4 rest m (omega arith) (λ l more. begins b x message (countIn l) more)
     (λ l more j r g. let f = few-steps l r in steps-same b x message (countIn l) 1 j more (fresh b) (omega arith))
 
-line3-same : (b : Table) (x : Breakers) (rest : List ℕ) (m : ℕ) → 1027051 ≤ m → fromLine3 b x (take m rest) ≡ fromLine3 b x rest
-unfolding fromLine3
+line3-same : (b : Table) (x : Breakers) (rest : List ℕ) (m : ℕ) → 1027051 ≤ m → printedBy (opening3 b x (take m rest)) ≡ printedBy (opening3 b x rest)
+unfolding opening3
 line3-same b x rest m h =
-    on-same (rightMessage b) (message-brief b) rest m (omega arith) 3 _ (λ l more j r g. line4-same b x (messageIn l) more j (omega arith))
+    opens-same (rightMessage b) (message-brief b) 3 rest m (omega arith) (λ l more. opening4 b x (messageIn l) more)
+    (λ l more j r g. line4-same b x (messageIn l) more j (omega arith))
 
-line2-same : (b : Table) (rest : List ℕ) (m : ℕ) → 1028076 ≤ m → fromLine2 b (take m rest) ≡ fromLine2 b rest
-unfolding fromLine2
+line2-same : (b : Table) (rest : List ℕ) (m : ℕ) → 1028076 ≤ m → printedBy (opening2 b (take m rest)) ≡ printedBy (opening2 b rest)
+unfolding opening2
 line2-same b rest m h =
-    on-same (rightBreakers b) (breakers-brief b) rest m (omega arith) 2 _ (λ l more j r g. line3-same b (breakersIn l) more j (omega arith))
+    opens-same (rightBreakers b) (breakers-brief b) 2 rest m (omega arith) (λ l more. opening3 b (breakersIn l) more)
+    (λ l more j r g. line3-same b (breakersIn l) more j (omega arith))
 
 -- bytes beyond the first m say nothing
 pub prefix-says-all : (input : List ℕ) (m : ℕ) → 1029101 ≤ m → drillOf (take m input) ≡ drillOf input
-unfolding drillOf fromLine1
+unfolding drillOf opening1
 prefix-says-all input m h =
     ap (λ (z : List ℕ). heading ++ z)
-    (on-same rightTable table-brief input m (omega arith) 1 _ (λ l more j r g. line2-same (tableIn l) more j (omega arith)))
+    (opens-same rightTable table-brief 1 input m (omega arith) (λ l more. opening2 (tableIn l) more)
+    (λ l more j r g. line2-same (tableIn l) more j (omega arith)))

@@ -3,17 +3,18 @@ use mathlib.Core.Path.{_≡_}
 use mathlib.Core.List.{List}
 use Prim.Native.Nat.{ℕ, _≤_}
 use lib.ListN.{length, take}
-use Rattle.boards.specs.declared.Table.{Table}
-use Rattle.desk.specs.Asked.{Small, Room}
-use Rattle.slots.specs.Held.{Boards, zeros}
-use Rattle.desk.specs.Boards.{turnOf}
-use Rattle.opening.specs.declared.Opening.{Opening}
-use Rattle.opening.specs.Opened.{opening1}
-use Rattle.opening.specs.Said.{saidBy}
-use Rattle.printing.specs.Text.{lineText}
-use Rattle.printing.specs.Printed.{Printed}
+use Rattle.record.specs.Form.{outBytes}
+use Rattle.table.specs.declared.Table.{Table}
+use Rattle.drill_step.specs.Asked.{Small, DrillRoom}
+use Rattle.drill_boards.specs.Held.{Boards, zeros}
+use Rattle.drill_step.specs.Boards.{turnOf}
+use Rattle.drill_open.specs.declared.Opening.{Opening}
+use Rattle.drill_open.specs.Opened.{opening1}
+use Rattle.drill_open.specs.Said.{openedBy}
+use Rattle.drill_print.specs.Text.{lineText}
+use Rattle.drill_print.specs.Printed.{Printed}
 use Rattle.drill.specs.Drill.{drillOf}
-use Rattle.drill.specs.Call.{Lent, leftBy}
+use Rattle.drill.specs.Call.{Lent, drillLeftBy}
 
 -- step k, line l, was run and its line printed: B are the boards before it, B′ after it
 pub record Stepped (b : Table) (message : List ℕ) (k : ℕ) (l : List ℕ) (B B′ : Boards) (p : ℕ) (old new : List ℕ) (q : ℕ) : Type 0 where
@@ -22,13 +23,13 @@ pub record Stepped (b : Table) (message : List ℕ) (k : ℕ) (l : List ℕ) (B 
 
 -- what the four lines before the steps say, with the message at the start of `message`
 pub record Opens (o : Opening) (message input : List ℕ) : Type 0 where
-  pub says : saidBy o (take (o .size) message) input ≡ opening1 input
+  pub says : openedBy o (take (o .size) message) input ≡ opening1 input
   pub size-few : o .size ≤ length message
   pub at-in : o .at ≤ length input
 
 -- lent buffers, clean, for the boards of a drill
 pub record Clean (states kept handed out delivery : List ℕ) : Type 0 where
-  pub room : Room states kept handed out delivery
+  pub room : DrillRoom states kept handed out delivery
   pub states-zero : states ≡ zeros 35588
   pub kept-zero : kept ≡ zeros 14336
 
@@ -44,8 +45,8 @@ pub record Ended (v : List ℕ) (old new : List ℕ) (q : ℕ) (message states k
   pub message-zero : message ≡ zeros 64
   pub states-zero : states ≡ zeros 35588
   pub kept-zero : kept ≡ zeros 14336
-  pub handed-zero : handed ≡ zeros 16619
-  pub out-zero : out ≡ zeros 16619
+  pub handed-zero : handed ≡ zeros outBytes
+  pub out-zero : out ≡ zeros outBytes
   pub delivery-zero : delivery ≡ zeros 64
 
 -- no lent buffer is too short
@@ -53,13 +54,13 @@ pub record Long (b : Lent) : Type 0 where
   pub message-long : 64 ≤ length (b .message)
   pub states-long : 35588 ≤ length (b .states)
   pub kept-long : 14336 ≤ length (b .kept)
-  pub handed-long : 16619 ≤ length (b .handed)
-  pub out-long : 16619 ≤ length (b .out)
+  pub handed-long : outBytes ≤ length (b .handed)
+  pub out-long : outBytes ≤ length (b .out)
   pub delivery-long : 64 ≤ length (b .delivery)
   pub text-long : 154051 ≤ length (b .text)
 
 -- the buffers after a drill whose text has q bytes
-pub record Left (input : List ℕ) (q : ℕ) (b b′ : Lent) : Type 0 where
-  pub left-is : b′ ≡ leftBy input b
+pub record DrillLeft (input : List ℕ) (q : ℕ) (b b′ : Lent) : Type 0 where
+  pub left-is : b′ ≡ drillLeftBy input b
   pub length-is : q ≡ length (drillOf input)
   pub few : q ≤ 154051

@@ -1,21 +1,24 @@
 // A drill: its lines are read, its steps run, and what it prints is put into a lent buffer.
-use boards::Table;
-use opening::Opening;
-use script::Breakers;
+use drill_lines::Breakers;
+use drill_open::Opening;
+use octets::Sized;
+use record::OUT_BYTES;
+use table::Table;
 ghost use mathlib.Core.Path.{_≡_};
 ghost use mathlib.Core.Bool.{true, _||_};
 ghost use Prim.Native.Nat.{_+_, _*_, _≤_, _<_};
 ghost use lib.Dec.{ltb};
 ghost use lib.ListN.{length, drop};
-ghost use Rattle.script.specs.Lines.{rightStep};
-ghost use Rattle.words.specs.Words.{upto};
-ghost use Rattle.opening.specs.Opened.{lineRight};
-ghost use Rattle.printing.specs.Printed.{Printed};
-ghost use Rattle.desk.specs.Asked.{Room};
-ghost use Rattle.slots.specs.Room.{boardsIn};
-ghost use Rattle.drill.specs.Drill.{stepsFrom, fromLine1, drillOf};
+ghost use Rattle.record.specs.Form.{outBytes};
+ghost use Rattle.drill_lines.specs.Lines.{rightStep};
+ghost use Rattle.drill_words.specs.Words.{upto};
+ghost use Rattle.drill_open.specs.Opened.{lineRight, opening1};
+ghost use Rattle.drill_print.specs.Printed.{Printed};
+ghost use Rattle.drill_step.specs.Asked.{DrillRoom};
+ghost use Rattle.drill_boards.specs.Room.{boardsIn};
+ghost use Rattle.drill.specs.Drill.{stepsFrom, printedBy, drillOf};
 ghost use Rattle.drill.specs.Call.{lent, drillOut, callOf};
-ghost use Rattle.drill.specs.Asked.{Stepped, Opens, Clean, Fitting, Ended, Long, Left};
+ghost use Rattle.drill.specs.Asked.{Stepped, Opens, Clean, Fitting, Ended, Long, DrillLeft};
 
 // One step: it is run and its line is printed.
 fn run_step(
@@ -34,12 +37,12 @@ fn run_step(
     p: usize,
 ) -> usize
     requires { ⌜ Fitting b (now message) × (at ≤ length (now input)) × (lineRight (rightStep b x) (drop at (now input)) ≡ true)
-        × Room (now states) (now kept) (now handed) (now out) (now delivery) × (p + 154 ≤ length (now text)) ⌝ }
+        × DrillRoom (now states) (now kept) (now handed) (now out) (now delivery) × (p + 154 ≤ length (now text)) ⌝ }
     ensures { λ r. ⌜ Stepped b (now (message .entry)) k (upto 10 (drop at (now (input .entry)))) (boardsIn (now (states .entry)) (now (kept .entry)))
         (boardsIn (now (states .exit)) (now (kept .exit))) p (now (text .entry)) (now (text .exit)) r × (r ≤ p + 154) ⌝ }
 {
-    let e = words::find(input, at, b'\n');
-    let s = desk::run(
+    let e = drill_words::find(input, at, b'\n');
+    let s = drill_step::run(
         b,
         message,
         &input[at..e],
@@ -49,7 +52,7 @@ fn run_step(
         out,
         delivery,
     );
-    printing::put_line(text, p, k, &input[at..e], s, delivery)
+    drill_print::put_line(text, p, k, &input[at..e], s, delivery)
 }
 
 // So many steps, from the line at `at` on; then nothing may follow.
@@ -69,7 +72,7 @@ fn run_steps(
     from: usize,
 ) -> usize
     requires { ⌜ Fitting b (now message) × (count ≤ 1000) × (start ≤ length (now input))
-        × Room (now states) (now kept) (now handed) (now out) (now delivery) × (from + 154014 ≤ length (now text)) ⌝ }
+        × DrillRoom (now states) (now kept) (now handed) (now out) (now delivery) × (from + 154014 ≤ length (now text)) ⌝ }
     ensures { λ r. ⌜ Printed (stepsFrom b x (now (message .entry)) count 1 (drop start (now (input .entry))) (boardsIn (now (states .entry)) (now (kept .entry))))
         from (now (text .entry)) (now (text .exit)) r × (r ≤ from + 154014) ⌝ }
 {
@@ -77,8 +80,8 @@ fn run_steps(
     let mut at = start;
     let mut p = from;
     while k <= count {
-        if !opening::is_step(b, x, input, at) {
-            return printing::put_bad(text, p, k + 4);
+        if !drill_open::is_step(b, x, input, at) {
+            return drill_print::put_bad(text, p, k + 4);
         }
         p = run_step(
             b,
@@ -95,11 +98,11 @@ fn run_steps(
             text,
             p,
         );
-        at = words::next_after(input, at, b'\n');
+        at = drill_words::next_after(input, at, b'\n');
         k += 1;
     }
     if at < input.len() {
-        return printing::put_bad(text, p, k + 4);
+        return drill_print::put_bad(text, p, k + 4);
     }
     p
 }
@@ -118,15 +121,15 @@ fn run_opened(
     p: usize,
 ) -> usize
     requires { ⌜ Opens o (now message) (now input) × Clean (now states) (now kept) (now handed) (now out) (now delivery) × (p + 154014 ≤ length (now text)) ⌝ }
-    ensures { λ r. ⌜ Printed (fromLine1 (now (input .entry))) p (now (text .entry)) (now (text .exit)) r × (r ≤ p + 154014) ⌝ }
+    ensures { λ r. ⌜ Printed (printedBy (opening1 (now (input .entry)))) p (now (text .entry)) (now (text .exit)) r × (r ≤ p + 154014) ⌝ }
 {
     if o.bad != 0 {
-        return printing::put_bad(text, p, o.bad);
+        return drill_print::put_bad(text, p, o.bad);
     }
     let b = o.table;
     let x = o.breakers;
     let n = o.size;
-    desk::start_all(b, states);
+    drill_step::start_all(b, states);
     run_steps(
         b,
         x,
@@ -155,13 +158,13 @@ fn run_all(
     delivery: &mut [u8],
     text: &mut [u8],
 ) -> usize
-    requires { ⌜ (length (now message) ≡ 64) × Room (now states) (now kept) (now handed) (now out) (now delivery) × (154051 ≤ length (now text)) ⌝ }
+    requires { ⌜ (length (now message) ≡ 64) × DrillRoom (now states) (now kept) (now handed) (now out) (now delivery) × (154051 ≤ length (now text)) ⌝ }
     ensures { λ r. ⌜ Ended (drillOf (now (input .entry))) (now (text .entry)) (now (text .exit)) r (now (message .exit)) (now (states .exit)) (now (kept .exit)) (now (handed .exit)) (now (out .exit)) (now (delivery .exit)) ⌝ }
 {
-    slots::clear(states, 35588);
-    slots::clear(kept, 14336);
+    drill_boards::clear(states, 35588);
+    drill_boards::clear(kept, 14336);
     octets::copy_at(text, 0, b"step kind from to answer act outcome\n");
-    let o = opening::open1(input, message);
+    let o = drill_open::open1(input, message);
     let end = run_opened(
         o,
         message,
@@ -174,20 +177,13 @@ fn run_all(
         text,
         37,
     );
-    slots::clear(message, 64);
-    slots::clear(states, 35588);
-    slots::clear(kept, 14336);
-    slots::clear(handed, 16619);
-    slots::clear(out, 16619);
-    slots::clear(delivery, 64);
+    drill_boards::clear(message, 64);
+    drill_boards::clear(states, 35588);
+    drill_boards::clear(kept, 14336);
+    drill_boards::clear(handed, OUT_BYTES);
+    drill_boards::clear(out, OUT_BYTES);
+    drill_boards::clear(delivery, 64);
     end
-}
-
-// An answer: the refusal's number, or 0; and how many bytes are printed.
-#[repr(C)]
-pub struct Drilled {
-    pub number: u32,
-    pub length: u32,
 }
 
 // The whole drill, in buffers that are long enough.
@@ -202,7 +198,7 @@ fn run_cut(
     text: &mut [u8],
 ) -> usize
     requires { ⌜ Long (lent (now message) (now states) (now kept) (now handed) (now out) (now delivery) (now text)) ⌝ }
-    ensures { λ r. ⌜ Left (now (input .entry)) r (lent (now (message .entry)) (now (states .entry)) (now (kept .entry)) (now (handed .entry)) (now (out .entry)) (now (delivery .entry)) (now (text .entry)))
+    ensures { λ r. ⌜ DrillLeft (now (input .entry)) r (lent (now (message .entry)) (now (states .entry)) (now (kept .entry)) (now (handed .entry)) (now (out .entry)) (now (delivery .entry)) (now (text .entry)))
         (lent (now (message .exit)) (now (states .exit)) (now (kept .exit)) (now (handed .exit)) (now (out .exit)) (now (delivery .exit)) (now (text .exit))) ⌝ }
 {
     run_all(
@@ -210,8 +206,8 @@ fn run_cut(
         &mut message[..64],
         &mut states[..35588],
         &mut kept[..14336],
-        &mut handed[..16619],
-        &mut out[..16619],
+        &mut handed[..OUT_BYTES],
+        &mut out[..OUT_BYTES],
         &mut delivery[..64],
         text,
     )
@@ -227,7 +223,7 @@ fn is_short(
     delivery: usize,
     text: usize,
 ) -> bool
-    ensures { λ r. ⌜ r ≡ (ltb message 64 || (ltb states 35588 || (ltb kept 14336 || (ltb handed 16619 || (ltb out 16619 || (ltb delivery 64 || ltb text 154051)))))) ⌝ }
+    ensures { λ r. ⌜ r ≡ (ltb message 64 || (ltb states 35588 || (ltb kept 14336 || (ltb handed outBytes || (ltb out outBytes || (ltb delivery 64 || ltb text 154051)))))) ⌝ }
 {
     if message < 64 {
         return true;
@@ -238,10 +234,10 @@ fn is_short(
     if kept < 14336 {
         return true;
     }
-    if handed < 16619 {
+    if handed < OUT_BYTES {
         return true;
     }
-    if out < 16619 {
+    if out < OUT_BYTES {
         return true;
     }
     if delivery < 64 {
@@ -261,7 +257,7 @@ pub extern "C" fn tumbeliko_drill(
     out: &mut [u8],
     delivery: &mut [u8],
     text: &mut [u8],
-) -> Drilled
+) -> Sized
     ensures { λ r. ⌜ drillOut r (lent (now (message .exit)) (now (states .exit)) (now (kept .exit)) (now (handed .exit)) (now (out .exit)) (now (delivery .exit)) (now (text .exit)))
         ≡ callOf (now (input .entry)) (lent (now (message .entry)) (now (states .entry)) (now (kept .entry)) (now (handed .entry)) (now (out .entry)) (now (delivery .entry)) (now (text .entry))) ⌝ }
 {
@@ -274,13 +270,13 @@ pub extern "C" fn tumbeliko_drill(
         delivery.len(),
         text.len(),
     ) {
-        return Drilled {
+        return Sized {
             number: 2,
             length: 0,
         };
     }
     let end = run_cut(input, message, states, kept, handed, out, delivery, text);
-    Drilled {
+    Sized {
         number: 0,
         length: end as u32,
     }

@@ -110,7 +110,7 @@ unfolding double add
 double-lt a h = ltb→lt (double a) 256 (below (λ (a : ℕ). ltb (double a) 256) 256 tt a h)
 
 -- a byte from its lowest bit and the others
-halves : (a : ℕ) → a < 256 → add (a % 2) (double (a / 2)) ≡ a
+pub halves : (a : ℕ) → a < 256 → add (a % 2) (double (a / 2)) ≡ a
 unfolding double add
 halves a h = eqb→eq (add (a % 2) (double (a / 2))) a (below (λ (a : ℕ). eqb (add (a % 2) (double (a / 2))) a) 256 tt a h)
 

@@ -11,8 +11,8 @@ use lib.Dec.{T, eqb, eqb→eq, ltb, ltb→lt}
 use lib.ListN.{length, getD}
 use Rattle.field.specs.Tables.{powers, logs, inverse}
 use Rattle.field.specs.Field.{add, double, mul, power}
-use Rattle.octets.proofs.Below.{all, below, both, both-left, both-right}
-use Rattle.field.proofs.Laws.{add-zero, double-lt, double-mul, mul-comm, mul-assoc, one-mul-l, mul-one-r, zero-mul-r}
+use Rattle.octets.proofs.Below.{below, both, both-left, both-right}
+use Rattle.field.proofs.Laws.{add-zero, double-lt, double-mul, mul-comm, mul-assoc, one-mul-l, zero-mul-r}
 
 -- ---- the table of powers: it starts at 1, and each entry is twice the one before
 
@@ -76,20 +76,10 @@ power-turn e h = sym (power-add e (255 - e)) ∙ ap power (turn e h) ∙ power-2
 
 -- ---- inverses
 
-pub inverse-lt : (a : ℕ) → inverse a < 256
-unfolding inverse
-inverse-lt a = power-lt (255 - getD logs a 0)
-
 pub mul-inverse : (a : ℕ) → 0 < a → a < 256 → mul a (inverse a) ≡ 1
 unfolding inverse
 mul-inverse a h g =
     ap (λ (x : ℕ). mul x (power (255 - getD logs a 0))) (sym (power-log a h g)) ∙ power-turn (getD logs a 0) (logs-lt a g)
-
--- there is one inverse only
-pub inverse-unique : (a r : ℕ) → 0 < a → a < 256 → r < 256 → mul a r ≡ 1 → r ≡ inverse a
-inverse-unique a r h g hr e =
-    sym (mul-one-r r hr) ∙ ap (mul r) (sym (mul-inverse a h g)) ∙ sym (mul-assoc r a (inverse a))
-    ∙ ap (λ (x : ℕ). mul x (inverse a)) (mul-comm r a ∙ e) ∙ one-mul-l (inverse a) (inverse-lt a)
 
 -- no zero divisors
 pub cancel : (a b : ℕ) → 0 < a → a < 256 → b < 256 → mul a b ≡ 0 → b ≡ 0

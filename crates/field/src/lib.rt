@@ -1,6 +1,7 @@
 // The field of 256 elements: bytes, addition by exclusive or, multiplication modulo the polynomial 285.
 ghost use mathlib.Core.Path.{_≡_};
-ghost use Prim.Native.Nat.{_<_, _*_};
+ghost use Prim.Native.Nat.{ℕ, _<_, _≤_, _*_};
+ghost use lib.ListN.{length, getD};
 ghost use Rattle.field.specs.Field.{add, double, mul, power};
 
 // The powers of 2: each entry is twice the one before.
@@ -643,4 +644,16 @@ pub fn inverse(a: u8) -> u8
     let a63 = product(product(a31, a31), a);
     let a127 = product(product(a63, a63), a);
     product(a127, a127)
+}
+
+// Each of the first n bytes is doubled.
+pub fn double_all(s: &mut [u8], n: usize)
+    requires { ⌜ n ≤ length (now s) ⌝ }
+    ensures { λ r. ⌜ ((i : ℕ) → i < n → getD (now (s .exit)) i 0 ≡ double (getD (now (s .entry)) i 0)) ⌝ }
+{
+    let mut i = 0;
+    while i < n {
+        s[i] = twice(s[i]);
+        i += 1;
+    }
 }

@@ -8,8 +8,8 @@ use mathlib.Core.Option.{Option, some, none}
 use lib.Dec.{T, T-not, leb, leb→le, le→leb, nleb→lt}
 use Rattle.line.specs.Boards.{count, mostBoards, someBoards, Board}
 use Rattle.line.specs.Run.{Machine, In, hand}
-use Rattle.line.specs.Core.{Word, echo, vote, setAt, Core, Move, still, acquire, hear, keep, naming, dueBy, quorum, due, moved, said}
-use Rattle.line.proofs.Tests.{both, left, right, truth, or-cases, or-left, or-right, not-or, never, chosen, pick-true}
+use Rattle.line.specs.Core.{Word, echo, vote, setAt, Core, Move, still, acquire, hear, keep, namedBy, dueBy, quorum, due, moved, said}
+use Rattle.line.proofs.Tests.{both, left, right, truth, or-cases, or-left, or-right, not-or, none-some, chosen, pick-true, none-some}
 use Rattle.line.proofs.Counts.{count-le, count-none}
 use Rattle.line.proofs.Named.{named, named-from, named-stays, named-there}
 use Rattle.line.proofs.EchoVote.{Reading, EchoVote}
@@ -28,15 +28,15 @@ not-due n t echoes votes h =
     (omega (arith, nleb→lt (mostBoards n t) echoes a), omega (arith, nleb→lt (someBoards t) votes b))
 
 module _ (n t : ℕ) {Val : Type 0} (same : Val → Val → Bool) (c : Core Val) (v : Val) where
-  pub quorum-why : T (quorum n t same c v) → n - t ≤ count (naming same c vote v) n
-  quorum-why h = omega (arith, leb→le (mostBoards n t) (count (naming same c vote v) n) h)
+  pub quorum-why : T (quorum n t same c v) → n - t ≤ count (namedBy same c vote v) n
+  quorum-why h = omega (arith, leb→le (mostBoards n t) (count (namedBy same c vote v) n) h)
 
-  pub quorum-is : n - t ≤ count (naming same c vote v) n → T (quorum n t same c v)
-  quorum-is h = le→leb (mostBoards n t) (count (naming same c vote v) n) (omega arith)
+  pub quorum-is : n - t ≤ count (namedBy same c vote v) n → T (quorum n t same c v)
+  quorum-is h = le→leb (mostBoards n t) (count (namedBy same c vote v) n) (omega arith)
 
 -- no vote is overdue (document 01: "not voted, no root has n-t echoes or t+1 votes")
 abbrev pub NotOverdue : (n t : ℕ) {Val : Type 0} → (Val → Val → Bool) → Core Val → Type 0
-NotOverdue n t {Val} same c = (v : Val) → T (not (c .spoke vote)) → (count (naming same c echo v) n < n - t) × (count (naming same c vote v) n ≤ t)
+NotOverdue n t {Val} same c = (v : Val) → T (not (c .spoke vote)) → (count (namedBy same c echo v) n < n - t) × (count (namedBy same c vote v) n ≤ t)
 
 -- A kind of board with such a core.
 pub record HasCore (M : Machine) (n t : ℕ) (Val : Type 0) (same : Val → Val → Bool) : Type 1 where
@@ -70,32 +70,32 @@ pub record HasCore (M : Machine) (n t : ℕ) (Val : Type 0) (same : Val → Val 
 module _ (n t : ℕ) {Val : Type 0} (same : Val → Val → Bool) (same-eq : (u v : Val) → T (same u v) → u ≡ v) (same-refl : (v : Val) → T (same v v)) where
   -- ---- one board more in a set
 
-  pub new-from : (c : Core Val) (w : Word) (i : ℕ) (u : Val) (w′ : Word) (v : Val) (k : ℕ) → T (naming same (keep c w i u) w′ v k)
-      → T (naming same c w′ v k) ⊎ ((k ≡ i) × (w ≡ w′) × (u ≡ v))
+  pub new-from : (c : Core Val) (w : Word) (i : ℕ) (u : Val) (w′ : Word) (v : Val) (k : ℕ) → T (namedBy same (keep c w i u) w′ v k)
+      → T (namedBy same c w′ v k) ⊎ ((k ≡ i) × (w ≡ w′) × (u ≡ v))
   new-from c w i u w′ v k = words w w′
     where
-      go : (w : Word) → T (named same (setAt (c .set w) i true) (setAt (c .val w) i u) v k) → T (naming same c w v k) ⊎ ((k ≡ i) × (w ≡ w) × (u ≡ v))
+      go : (w : Word) → T (named same (setAt (c .set w) i true) (setAt (c .val w) i u) v k) → T (namedBy same c w v k) ⊎ ((k ≡ i) × (w ≡ w) × (u ≡ v))
       go w h = elim (named-from same same-eq (c .set w) (c .val w) i true u v k h) [ inl o ↦ inl o | inr (ek, ev, t) ↦ inr (ek, refl, ev) ]
 
-      words : (w w′ : Word) → T (naming same (keep c w i u) w′ v k) → T (naming same c w′ v k) ⊎ ((k ≡ i) × (w ≡ w′) × (u ≡ v))
+      words : (w w′ : Word) → T (namedBy same (keep c w i u) w′ v k) → T (namedBy same c w′ v k) ⊎ ((k ≡ i) × (w ≡ w′) × (u ≡ v))
       words echo echo = go echo
       words vote vote = go vote
       words echo vote = λ h. inl h
       words vote echo = λ h. inl h
 
   pub new-stays : (c : Core Val) (w : Word) (i : ℕ) (u : Val) (w′ : Word) (v : Val) (k : ℕ) → T (not (c .set w i))
-      → T (naming same c w′ v k) → T (naming same (keep c w i u) w′ v k)
+      → T (namedBy same c w′ v k) → T (namedBy same (keep c w i u) w′ v k)
   new-stays c echo i u echo v k = named-stays same (c .set echo) (c .val echo) i true u v k
   new-stays c vote i u vote v k = named-stays same (c .set vote) (c .val vote) i true u v k
   new-stays c echo i u vote v k = λ ni h. h
   new-stays c vote i u echo v k = λ ni h. h
 
-  new-there : (c : Core Val) (w : Word) (i : ℕ) (u : Val) → T (naming same (keep c w i u) w u i)
+  new-there : (c : Core Val) (w : Word) (i : ℕ) (u : Val) → T (namedBy same (keep c w i u) w u i)
   new-there c echo i u = named-there same same-refl (c .set echo) (c .val echo) i true u tt
   new-there c vote i u = named-there same same-refl (c .set vote) (c .val vote) i true u tt
 
-  pub new-count : (c : Core Val) (w : Word) (i : ℕ) (u : Val) (w′ : Word) (v : Val) → (u ≡ v → ⊥) → count (naming same (keep c w i u) w′ v) n ≤ count (naming same c w′ v) n
-  new-count c w i u w′ v ne = count-le (naming same (keep c w i u) w′ v) (naming same c w′ v) n
+  pub new-count : (c : Core Val) (w : Word) (i : ℕ) (u : Val) (w′ : Word) (v : Val) → (u ≡ v → ⊥) → count (namedBy same (keep c w i u) w′ v) n ≤ count (namedBy same c w′ v) n
+  new-count c w i u w′ v ne = count-le (namedBy same (keep c w i u) w′ v) (namedBy same c w′ v) n
       (λ k b h. elim (new-from c w i u w′ v k h) [ inl g ↦ g | inr (a, d, e) ↦ absurd (ne e) ])
 
   -- ---- no vote is overdue
@@ -106,15 +106,15 @@ module _ (n t : ℕ) {Val : Type 0} (same : Val → Val → Bool) (same-eq : (u 
   overdue-next c (hear w i u) h v nv =
       let (no-vote, nd) = not-or (c .spoke vote) (due n t same (keep c w i u) u) nv in
       elim (truth (same u v)) [
-        | inl e ↦ subst (λ a. (count (naming same (keep c w i u) echo a) n < n - t) × (count (naming same (keep c w i u) vote a) n ≤ t)) (same-eq u v e) (mine nd)
+        | inl e ↦ subst (λ a. (count (namedBy same (keep c w i u) echo a) n < n - t) × (count (namedBy same (keep c w i u) vote a) n ≤ t)) (same-eq u v e) (mine nd)
         | inr ne ↦ (
             let (a, b) = h v no-vote in
             let d : u ≡ v → ⊥ = λ e. T-not (same u v) ne (subst (λ a. T (same u a)) e (same-refl u)) in
             (omega (arith, new-count c w i u echo v d), omega (arith, new-count c w i u vote v d)))
       ]
     where
-      mine : T (not (due n t same (keep c w i u) u)) → (count (naming same (keep c w i u) echo u) n < n - t) × (count (naming same (keep c w i u) vote u) n ≤ t)
-      mine nd = not-due n t (count (naming same (keep c w i u) echo u) n) (count (naming same (keep c w i u) vote u) n) nd
+      mine : T (not (due n t same (keep c w i u) u)) → (count (namedBy same (keep c w i u) echo u) n < n - t) × (count (namedBy same (keep c w i u) vote u) n ≤ t)
+      mine nd = not-due n t (count (namedBy same (keep c w i u) echo u) n) (count (namedBy same (keep c w i u) vote u) n) nd
 
 module _ {M : Machine} {n t : ℕ} {Val : Type 0} {same : Val → Val → Bool} (A : HasCore M n t Val same) where
   -- ---- the laws
@@ -123,7 +123,7 @@ module _ {M : Machine} {n t : ℕ} {Val : Type 0} {same : Val → Val → Bool} 
   reading = record {
     Says = A .Says;
     says = λ w s x. said n t same (A .core s) (A .move s x) w;
-    heard = λ w s v i. naming same (A .core s) w v i;
+    heard = λ w s v i. namedBy same (A .core s) w v i;
     spoke = λ w s. A .core s .spoke w;
     done = A .done;
     Good = λ j s. A .More j s × NotOverdue n t same (A .core s);
@@ -136,11 +136,11 @@ module _ {M : Machine} {n t : ℕ} {Val : Type 0} {same : Val → Val → Bool} 
         → P (A .core (M .next s x)) (λ w. said n t same (A .core s) (A .move s x) w)
     by-move P f = subst (λ c. P c (λ w. said n t same (A .core s) (A .move s x) w)) (sym (A .core-next g x)) (f (A .move s x) refl)
 
-    heard-from : (w : Word) (v : Val) (i : ℕ) → T (naming same (A .core (M .next s x)) w v i) → T (naming same (A .core s) w v i) ⊎ ((ρ : M .Rec) × (x ≡ hand i ρ) × A .Says w ρ v)
-    heard-from w v i = by-move (λ c y. T (naming same c w v i) → T (naming same (A .core s) w v i) ⊎ ((ρ : M .Rec) × (x ≡ hand i ρ) × A .Says w ρ v)) go
+    heard-from : (w : Word) (v : Val) (i : ℕ) → T (namedBy same (A .core (M .next s x)) w v i) → T (namedBy same (A .core s) w v i) ⊎ ((ρ : M .Rec) × (x ≡ hand i ρ) × A .Says w ρ v)
+    heard-from w v i = by-move (λ c y. T (namedBy same c w v i) → T (namedBy same (A .core s) w v i) ⊎ ((ρ : M .Rec) × (x ≡ hand i ρ) × A .Says w ρ v)) go
       where
-        go : (m : Move Val) → A .move s x ≡ m → T (naming same (moved n t same (A .core s) m) w v i)
-            → T (naming same (A .core s) w v i) ⊎ ((ρ : M .Rec) × (x ≡ hand i ρ) × A .Says w ρ v)
+        go : (m : Move Val) → A .move s x ≡ m → T (namedBy same (moved n t same (A .core s) m) w v i)
+            → T (namedBy same (A .core s) w v i) ⊎ ((ρ : M .Rec) × (x ≡ hand i ρ) × A .Says w ρ v)
         go still e h = inl h
         go (acquire o) e h = inl h
         go (hear w′ k u) e h = elim (new-from n t same (A .same-eq) (A .same-refl) (A .core s) w′ k u w v i h) [
@@ -150,10 +150,10 @@ module _ {M : Machine} {n t : ℕ} {Val : Type 0} {same : Val → Val → Bool} 
               inr (ρ, rw ek ex, rw (← ew, ← eu) sy))
         ]
 
-    heard-stays : (w : Word) (v : Val) (i : ℕ) → T (naming same (A .core s) w v i) → T (naming same (A .core (M .next s x)) w v i)
-    heard-stays w v i h = by-move (λ c y. T (naming same c w v i)) go
+    heard-stays : (w : Word) (v : Val) (i : ℕ) → T (namedBy same (A .core s) w v i) → T (namedBy same (A .core (M .next s x)) w v i)
+    heard-stays w v i h = by-move (λ c y. T (namedBy same c w v i)) go
       where
-        go : (m : Move Val) → A .move s x ≡ m → T (naming same (moved n t same (A .core s) m) w v i)
+        go : (m : Move Val) → A .move s x ≡ m → T (namedBy same (moved n t same (A .core s) m) w v i)
         go still e = h
         go (acquire o) e = h
         go (hear w′ k u) e = new-stays n t same (A .same-eq) (A .same-refl) (A .core s) w′ k u w v i (A .hear-why g x w′ k u e .1) h
@@ -172,27 +172,27 @@ module _ {M : Machine} {n t : ℕ} {Val : Type 0} {same : Val → Val → Bool} 
     says-once w v = by-move (λ c y. y w ≡ some v → T (not (A .core s .spoke w)) × T (c .spoke w)) (go w)
       where
         go : (w : Word) (m : Move Val) → A .move s x ≡ m → said n t same (A .core s) m w ≡ some v → T (not (A .core s .spoke w)) × T (moved n t same (A .core s) m .spoke w)
-        go w still e q = never v q
+        go w still e q = none-some v q
         go echo (acquire o) e q = (A .acquire-why g x o e, tt)
-        go vote (acquire o) e q = never v q
-        go echo (hear w′ k u) e q = never v q
+        go vote (acquire o) e q = none-some v q
+        go echo (hear w′ k u) e q = none-some v q
         go vote (hear w′ k u) e q =
             let (b, r) = chosen (not (A .core s .spoke vote) && due n t same (keep (A .core s) w′ k u) u) u v q in
             (left (not (A .core s .spoke vote)) _ b, or-right (A .core s .spoke vote) _ (right (not (A .core s .spoke vote)) _ b))
 
     vote-why : (v : Val) → said n t same (A .core s) (A .move s x) vote ≡ some v
-        → (n - t ≤ count (naming same (A .core (M .next s x)) echo v) n) ⊎ (t < count (naming same (A .core (M .next s x)) vote v) n)
-    vote-why v = by-move (λ c y. y vote ≡ some v → (n - t ≤ count (naming same c echo v) n) ⊎ (t < count (naming same c vote v) n)) go
+        → (n - t ≤ count (namedBy same (A .core (M .next s x)) echo v) n) ⊎ (t < count (namedBy same (A .core (M .next s x)) vote v) n)
+    vote-why v = by-move (λ c y. y vote ≡ some v → (n - t ≤ count (namedBy same c echo v) n) ⊎ (t < count (namedBy same c vote v) n)) go
       where
         go : (m : Move Val) → A .move s x ≡ m → said n t same (A .core s) m vote ≡ some v
-            → (n - t ≤ count (naming same (moved n t same (A .core s) m) echo v) n) ⊎ (t < count (naming same (moved n t same (A .core s) m) vote v) n)
-        go still e q = never v q
-        go (acquire o) e q = never v q
+            → (n - t ≤ count (namedBy same (moved n t same (A .core s) m) echo v) n) ⊎ (t < count (namedBy same (moved n t same (A .core s) m) vote v) n)
+        go still e q = none-some v q
+        go (acquire o) e q = none-some v q
         go (hear w′ k u) e q =
             let c = keep (A .core s) w′ k u in
             let (b, r) = chosen (not (A .core s .spoke vote) && due n t same c u) u v q in
-            subst (λ a. (n - t ≤ count (naming same c echo a) n) ⊎ (t < count (naming same c vote a) n)) r
-            (due-why n t (count (naming same c echo u) n) (count (naming same c vote u) n) (right (not (A .core s .spoke vote)) _ b))
+            subst (λ a. (n - t ≤ count (namedBy same c echo a) n) ⊎ (t < count (namedBy same c vote a) n)) r
+            (due-why n t (count (namedBy same c echo u) n) (count (namedBy same c vote u) n) (right (not (A .core s .spoke vote)) _ b))
 
     voted-why : T (A .core (M .next s x) .spoke vote) → T (A .core s .spoke vote) ⊎ ((v : Val) × (said n t same (A .core s) (A .move s x) vote ≡ some v))
     voted-why = by-move (λ c y. T (c .spoke vote) → T (A .core s .spoke vote) ⊎ ((v : Val) × (y vote ≡ some v))) go
@@ -207,14 +207,14 @@ module _ {M : Machine} {n t : ℕ} {Val : Type 0} {same : Val → Val → Bool} 
         ]
 
   heard-in : {j : ℕ} {s : M .State} → A .More j s → (i : ℕ) (ρ : M .Rec) (w : Word) (v : Val) → Board n i → A .Says w ρ v
-      → T (A .done (M .next s (hand i ρ))) ⊎ ((u : Val) × T (naming same (A .core (M .next s (hand i ρ))) w u i))
+      → T (A .done (M .next s (hand i ρ))) ⊎ ((u : Val) × T (namedBy same (A .core (M .next s (hand i ρ))) w u i))
   heard-in {j} {s} g i ρ w v b y = elim (truth (A .done s)) [
     | inl d ↦ inl (A .done-stays g (hand i ρ) d)
     | inr nd ↦ inr (elim (truth (A .core s .set w i)) [
       | inl h ↦ (A .core s .val w i, heard-stays g (hand i ρ) w (A .core s .val w i) i (both (A .core s .set w i) _ h (A .same-refl (A .core s .val w i))))
       | inr nh ↦ (
         v,
-        subst (λ c. T (naming same c w v i)) (sym (A .core-next g (hand i ρ) ∙ ap (moved n t same (A .core s)) (A .hear-in g i ρ w v b y nd nh)))
+        subst (λ c. T (namedBy same c w v i)) (sym (A .core-next g (hand i ρ) ∙ ap (moved n t same (A .core s)) (A .hear-in g i ρ w v b y nd nh)))
             (new-there n t same (A .same-eq) (A .same-refl) (A .core s) w i v),
       )
     ])
@@ -223,11 +223,11 @@ module _ {M : Machine} {n t : ℕ} {Val : Type 0} {same : Val → Val → Bool} 
   overdue-start : (j : ℕ) → NotOverdue n t same (A .core (M .start j))
   overdue-start j v nv = (omega (arith, A .third, empty echo), omega (arith, empty vote))
     where
-      empty : (w : Word) → count (naming same (A .core (M .start j)) w v) n ≤ 0
+      empty : (w : Word) → count (namedBy same (A .core (M .start j)) w v) n ≤ 0
       empty w = omega (
         arith,
         count-none n,
-        count-le (naming same (A .core (M .start j)) w v) (λ i. false) n
+        count-le (namedBy same (A .core (M .start j)) w v) (λ i. false) n
             (λ i b h. absurd (A .core-empty j w i (left (A .core (M .start j) .set w i) _ h))),
       )
 

@@ -10,7 +10,7 @@ use Rattle.octets.specs.Bytes.{pick}
 use Rattle.line.specs.Boards.{count, known}
 use Rattle.line.specs.Run.{Machine, In, hand, Run, fresh, after, state, Took, Put, Delivered, Genuine, Fair, Over}
 use Rattle.line.specs.Promise.{Mail}
-use Rattle.line.specs.Core.{echo, vote, naming, dueBy}
+use Rattle.line.specs.Core.{echo, vote, namedBy, dueBy}
 use Rattle.line.specs.Plain.{simple}
 use Rattle.line.specs.Notice.{Note, send, say, Form, notice}
 
@@ -36,7 +36,7 @@ unfolding state pick count dueBy
 repeated-vote = refl
 
 -- and only the first is kept
-first-vote : naming eqb (state (boards 4 1) repeated 1 .core) vote 7 2 ≡ true
+first-vote : namedBy eqb (state (boards 4 1) repeated 1 .core) vote 7 2 ≡ true
 unfolding state pick count dueBy
 first-vote = refl
 

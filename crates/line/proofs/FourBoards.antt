@@ -9,7 +9,7 @@ use lib.Dec.{T}
 use Rattle.line.specs.Boards.{Board}
 use Rattle.line.specs.Run.{Machine, In, hand, Run, fresh, state, Took, Put, Delivered, Fair}
 use Rattle.line.specs.Project.{project}
-use Rattle.line.proofs.Tests.{never}
+use Rattle.line.proofs.Tests.{none-some}
 use Rattle.line.proofs.Rounds.{round, round-state, round-took, round-took-kept, round-put, round-put-kept, round-put-why}
 use Rattle.line.proofs.Rounds.{round-delivered, round-delivered-kept, round-fair, round-project}
 
@@ -117,7 +117,7 @@ module _ (M : Machine) (r : Run M) (ρ : ℕ → M .Rec) where
     ]
       where
         quiet : {D : Type 0} {s t : M .State} {i : ℕ} → M .puts t (hand i (ρ i)) k ≡ none → s ≡ t → M .puts s (hand i (ρ i)) k ≡ some x → D
-        quiet {s = s} {t} {i} n e q = never x (sym n ∙ ap (λ s. M .puts s (hand i (ρ i)) k) (sym e) ∙ q)
+        quiet {s = s} {t} {i} n e q = none-some x (sym n ∙ ap (λ s. M .puts s (hand i (ρ i)) k) (sym e) ∙ q)
 
   -- records that were put out before
   pub each-fair : {keeps : ℕ → Bool} {Sent : ℕ → ℕ → M .Rec → Type 0} → Fair M keeps Sent r

@@ -10,7 +10,7 @@ use Rattle.line.specs.Boards.{Board, known, Keepers}
 use Rattle.line.specs.Run.{Machine, Input, hand, tell, Run, Fair}
 use Rattle.line.specs.Promise.{Mail, Promise}
 use Rattle.line.specs.Core.{Word, echo, vote, Move, still, acquire, hear, moved, said}
-use Rattle.line.specs.Plain.{Simple, simple, recordOf}
+use Rattle.line.specs.Plain.{Simple, simple, writtenBy}
 use Rattle.line.specs.Notice.{Note, send, say, Form, firstSend, firstWord, takes, answers, notice}
 use Rattle.line.proofs.Tests.{both, left, right, truth, or-left, off, pick-true}
 use Rattle.line.proofs.Counts.{is-known}
@@ -140,7 +140,7 @@ module _ {n t : ℕ} {Val : Type 0} {same : Val → Val → Bool} {B : Form n Va
         word : (w : Word) (u v : Val) → say w u ≡ send v → ⊥
         word w u v e = off (cc)
 
-        no-send : (o p : Option Val) (b : B .Bytes) (v : Val) → recordOf n t same (notice B) o p ≡ some b → B .read b ≡ some (send v) → ⊥
+        no-send : (o p : Option Val) (b : B .Bytes) (v : Val) → writtenBy n t same (notice B) o p ≡ some b → B .read b ≡ some (send v) → ⊥
         no-send none none b v e r = off (cc)
         no-send none (some u) b v e r = unread (say vote u) b v (word vote u v) e r
         no-send (some u) p b v e r = unread (say echo u) b v (word echo u v) e r

@@ -2,7 +2,7 @@
 use Prim.Native.Nat.{ℕ}
 use native.Mathlib.Omega.{arith}
 use mathlib.Core.Bool.{Bool, true, false, not, _&&_, _||_}
-use mathlib.Core.Path.{_≡_, refl, sym, subst}
+use mathlib.Core.Path.{_≡_, refl}
 use mathlib.Core.Logic.{_⊎_, inl, inr}
 use mathlib.Core.Option.{some, none}
 use lib.Dec.{T}
@@ -21,13 +21,6 @@ pub right : (a b : Bool) → T (a && b) → T b
 right true true s = tt
 right true false s = s
 right false b s = absurd s
-
-pub holds : (b : Bool) → b ≡ true → T b
-holds b e = subst T (sym e) tt
-
-pub is-true : (b : Bool) → T b → b ≡ true
-is-true true h = refl
-is-true false h = absurd h
 
 pub truth : (b : Bool) → T b ⊎ T (not b)
 truth true = inl tt
@@ -61,11 +54,11 @@ Off = _≡_ {A = ℕ} 0 1
 pub off : {D : Type 0} → Off → D
 off e = absurd (omega arith)
 
-pub never : {A D : Type 0} (a : A) → none ≡ some a → D
-never a e = off (cc)
+pub none-some : {A D : Type 0} (a : A) → none ≡ some a → D
+none-some a e = off (cc)
 
 -- something that a test picks
 pub chosen : {A : Type 0} (c : Bool) (d e : A) → pick c (some d) none ≡ some e → T c × (d ≡ e)
 unfolding pick
 chosen true d e q = (tt, (cc))
-chosen false d e q = never e q
+chosen false d e q = none-some e q

@@ -36,8 +36,8 @@ abbrev pub keep : {Val : Type 0} → Core Val → Word → ℕ → Val → Core 
 keep c w i v = record { spoke = c .spoke; set = setWord (c .set) w (setAt (c .set w) i true); val = setWord (c .val) w (setAt (c .val w) i v) }
 
 -- the boards whose echo (vote) names v
-abbrev pub naming : {Val : Type 0} → (Val → Val → Bool) → Core Val → Word → Val → ℕ → Bool
-naming same c w v i = c .set w i && same (c .val w i) v
+abbrev pub namedBy : {Val : Type 0} → (Val → Val → Bool) → Core Val → Word → Val → ℕ → Bool
+namedBy same c w v i = c .set w i && same (c .val w i) v
 
 -- document 01: "if n-t echoes name one root, or t+1 votes do, put out a vote for it"
 unfoldable pub dueBy : ℕ → ℕ → ℕ → ℕ → Bool
@@ -45,20 +45,20 @@ dueBy n t echoes votes = leb (mostBoards n t) echoes || leb (someBoards t) votes
 
 -- document 01: "n-t votes name one root"
 abbrev pub quorum : (n t : ℕ) {Val : Type 0} → (Val → Val → Bool) → Core Val → Val → Bool
-quorum n t same c v = leb (mostBoards n t) (count (naming same c vote v) n)
+quorum n t same c v = leb (mostBoards n t) (count (namedBy same c vote v) n)
 
 module _ (n t : ℕ) {Val : Type 0} (same : Val → Val → Bool) where
   abbrev pub due : Core Val → Val → Bool
-  due c v = dueBy n t (count (naming same c echo v) n) (count (naming same c vote v) n)
+  due c v = dueBy n t (count (namedBy same c echo v) n) (count (namedBy same c vote v) n)
 
-  abbrev pub votedNow : Core Val → Val → Core Val
-  votedNow c v = record { spoke = setWord (c .spoke) vote (c .spoke vote || due c v); set = c .set; val = c .val }
+  abbrev pub withVote : Core Val → Val → Core Val
+  withVote c v = record { spoke = setWord (c .spoke) vote (c .spoke vote || due c v); set = c .set; val = c .val }
 
   -- the core after a move
   abbrev pub moved : Core Val → Move Val → Core Val
   moved c still = c
   moved c (acquire o) = record { spoke = setWord (c .spoke) echo true; set = c .set; val = c .val }
-  moved c (hear w i v) = votedNow (keep c w i v) v
+  moved c (hear w i v) = withVote (keep c w i v) v
 
   -- what a move echoes, what it votes for
   abbrev pub said : Core Val → Move Val → Word → Option Val

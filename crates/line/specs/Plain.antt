@@ -27,15 +27,15 @@ module _ (n t : ℕ) {Val : Type 0} (same : Val → Val → Bool) (K : Kind Val)
   full c v = c .spoke vote && quorum n t same c v
 
   -- what a move delivers
-  abbrev pub ended : Core Val → Move Val → Option Val
-  ended c still = none
-  ended c (acquire o) = none
-  ended c (hear w i v) = pick (full (moved n t same c (hear w i v)) v) (some v) none
+  abbrev pub deliveredBy : Core Val → Move Val → Option Val
+  deliveredBy c still = none
+  deliveredBy c (acquire o) = none
+  deliveredBy c (hear w i v) = pick (full (moved n t same c (hear w i v)) v) (some v) none
 
-  abbrev pub recordOf : Option Val → Option Val → Option (K .Rec)
-  recordOf none none = none
-  recordOf none (some v) = some (K .write vote v)
-  recordOf (some v) o = some (K .write echo v)
+  abbrev pub writtenBy : Option Val → Option Val → Option (K .Rec)
+  writtenBy none none = none
+  writtenBy none (some v) = some (K .write vote v)
+  writtenBy (some v) o = some (K .write echo v)
 
   -- blank: what stands where nothing was kept yet
   abbrev pub simple : (ℕ → Val) → Machine
@@ -45,7 +45,7 @@ module _ (n t : ℕ) {Val : Type 0} (same : Val → Val → Bool) (K : Kind Val)
     Rec = K .Rec;
     Result = Val;
     start = λ j. record { core = record { spoke = λ w. false; set = λ w i. false; val = λ w i. blank i }; done = false };
-    next = λ s x. record { core = moved n t same (s .core) (K .move s x); done = s .done || given (ended (s .core) (K .move s x)) };
-    puts = λ s x k. recordOf (said n t same (s .core) (K .move s x) echo) (said n t same (s .core) (K .move s x) vote);
-    gives = λ s x. ended (s .core) (K .move s x);
+    next = λ s x. record { core = moved n t same (s .core) (K .move s x); done = s .done || given (deliveredBy (s .core) (K .move s x)) };
+    puts = λ s x k. writtenBy (said n t same (s .core) (K .move s x) echo) (said n t same (s .core) (K .move s x) vote);
+    gives = λ s x. deliveredBy (s .core) (K .move s x);
   }

@@ -13,7 +13,7 @@ use lib.Dec.{eqb, eqb·suc-suc, eqb·zero-suc, eqb·suc-zero}
 use lib.Pow.{shr-shr, pow-lt, pow-mono, pow-pos}
 use lib.ListN.{length, getD}
 use lib.Seq.{ext-getD}
-use mathlib.Core.List.{List, [], _∷_}
+use mathlib.Core.List.{List}
 use Rattle.octets.specs.Bytes.{pick, part, twoAt, fourAt, eightAt}
 use Rattle.octets.proofs.Laws.{length-part}
 use Rattle.octets.proofs.Parts.{getD-part}

@@ -1,6 +1,6 @@
 -- Two lists that the test calls the same are equal, and the other way round.
 -- Assumes nothing.
-use mathlib.Core.Path.{_≡_, refl, sym, ap, _∙_}
+use mathlib.Core.Path.{_≡_, refl, ap, _∙_}
 use mathlib.Core.Bool.{true}
 use mathlib.Core.List.{List, [], _∷_}
 use Prim.Native.Nat.{ℕ, _+_, _<_, _≤_}
@@ -8,10 +8,8 @@ use native.Mathlib.Nat as N
 use native.Mathlib.Omega.{arith}
 use borrow.Author.Tests.{eqb-true, eq-eqb}
 use lib.Dec.{eqb}
-use lib.ListN.{length, getD}
-use lib.Seq.{ext-getD}
+use lib.ListN.{getD}
 use Rattle.octets.specs.Bytes.{part, same}
-use Rattle.octets.proofs.Laws.{length-part}
 use Rattle.octets.proofs.Parts.{getD-part}
 use Rattle.octets.proofs.Picks.{and-l, and-r}
 
@@ -33,16 +31,3 @@ same-equal (x ∷ s) (y ∷ r) e =
 module _ (s r : List ℕ) (b n : ℕ) where
   front : (i : ℕ) → i < n → getD (part 0 n s) i 0 ≡ getD s i 0
   front i h = getD-part 0 n i s h ∙ ap (λ (p : ℕ). getD s p 0) (N.zero-add i)
-
-  pub same-places : same (part 0 n s) (part b n r) ≡ true → (i : ℕ) → i < n → getD s i 0 ≡ getD r (b + i) 0
-  same-places e i h =
-      sym (front i h) ∙ ap (λ (l : List ℕ). getD l i 0) (same-equal (part 0 n s) (part b n r) e) ∙ getD-part b n i r h
-
-  pub places-same : n ≤ length s → b + n ≤ length r → ((i : ℕ) → i < n → getD s i 0 ≡ getD r (b + i) 0) → same (part 0 n s) (part b n r) ≡ true
-  places-same h g f =
-      let l : length (part 0 n s) ≡ n = length-part 0 n s (omega arith) in
-      ap (same (part 0 n s))
-      (sym (ext-getD 0 (part 0 n s) (part b n r) (l ∙ sym (length-part b n r g))
-      (λ i d. let e : i < n = omega arith in
-      front i e ∙ f i e ∙ sym (getD-part b n i r e))))
-      ∙ same-self (part 0 n s)

@@ -1,8 +1,15 @@
 // Numbers and runs of bytes in a lent buffer.
 ghost use mathlib.Core.Path.{_≡_};
-ghost use Prim.Native.Nat.{ℕ, _+_, _*_, _^_, _≤_, _<_};
+ghost use Prim.Native.Nat.{ℕ, _+_, _*_, _^_, _≤_, _<_, min};
 ghost use lib.ListN.{length, getD, replicate};
 ghost use Rattle.octets.specs.Bytes.{twoAt, fourAt, eightAt, two, four, eight, part, put, same};
+
+// An answer of a call: the refusal's number, or 0; and a length.
+#[repr(C)]
+pub struct Sized {
+    pub number: u32,
+    pub length: u32,
+}
 
 pub fn wide(x: u8) -> usize
     ensures { λ r. ⌜ (r ≡ x) × (x < 256) ⌝ }
@@ -110,4 +117,32 @@ pub fn copy_part(dst: &mut [u8], at: usize, src: &[u8], from: usize, n: usize)
         dst[at + i] = src[from + i];
         i += 1;
     }
+}
+
+// The smaller of two numbers.
+pub fn least(x: usize, y: usize) -> usize
+    ensures { λ r. ⌜ r ≡ min x y ⌝ }
+{
+    if x < y { x } else { y }
+}
+
+// The larger of two bytes.
+fn larger(a: u8, b: u8) -> u8
+    ensures { λ r. ⌜ (a ≤ r) × (b ≤ r) ⌝ }
+{
+    if a < b { b } else { a }
+}
+
+// A byte that none of the first n bytes is above.
+pub fn largest(s: &[u8], n: usize) -> u8
+    requires { ⌜ n ≤ length (now s) ⌝ }
+    ensures { λ r. ⌜ ((i : ℕ) → i < n → getD (now (s .entry)) i 0 ≤ r) ⌝ }
+{
+    let mut most: u8 = 0;
+    let mut i = 0;
+    while i < n {
+        most = larger(most, s[i]);
+        i += 1;
+    }
+    most
 }

@@ -10,7 +10,7 @@ use lib.Dec.{leb, eqb}
 use Rattle.octets.specs.Bytes.{pick, part}
 use Rattle.octets.proofs.Laws.{length-part}
 use Rattle.octets.proofs.Picks.{and-l, and-r}
-use Rattle.record.specs.Form.{parse, isKind, nodesMost, fragmentOk, recordOf, partsOk, Parts}
+use Rattle.record.specs.Form.{outBytes, parse, isKind, nodesMost, fragmentOk, recordOf, partsOk, Parts}
 use Rattle.record.specs.declared.Read.the-variants.{Form}
 use Rattle.record.proofs.Facts.{whole, nodes-le}
 use Rattle.record.proofs.Round.{read-back}
@@ -54,7 +54,7 @@ fragment-most k f = go (eqb k 3)
 
 module _ (k : ℕ) (root path fragment : List ℕ) where
   -- parts that pass can be written
-  pub parts-fit : (o : List ℕ) → partsOk k (length root) (length path) (length fragment) ≡ true → 16619 ≤ length o
+  pub parts-fit : (o : List ℕ) → partsOk k (length root) (length path) (length fragment) ≡ true → outBytes ≤ length o
       → Parts o root (length path / 32) path fragment
   parts-fit o h l =
       let w = known k (length root) (length path) (length fragment) h in
@@ -86,11 +86,3 @@ parts-pass s k p f e =
     let q : 32 * p % 32 ≡ 0 = omega arith in
     let d : 32 * p / 32 ≡ p = omega arith in
     rw (a, b, c, q, d, w .kind-ok, w .nodes-ok, w .fragment-ok)
-
--- so parts that do not pass are those of no record
-pub parts-none : (k : ℕ) (root path fragment : List ℕ) → partsOk k (length root) (length path) (length fragment) ≡ false
-    → (s : List ℕ) (p f : ℕ) → parse s ≡ Form k p f → part 3 32 s ≡ root → part 37 (32 * p) s ≡ path → part (39 + 32 * p) f s ≡ fragment → ⊥
-parts-none k root path fragment h s p f e x y z =
-    let t : partsOk k (length root) (length path) (length fragment) ≡ true = rw (x, y, z) at (parts-pass s k p f e) in
-    let q : _≡_ {A = ℕ} 0 1 = cc in
-    omega arith

@@ -70,10 +70,14 @@ unfoldable pub partsOk : ℕ → ℕ → ℕ → ℕ → Bool
 partsOk k root path fragment =
     isKind k && (eqb root 32 && (eqb (path % 32) 0 && (leb (path / 32) (nodesMost k) && fragmentOk k fragment)))
 
--- what writing a record asks of its parts and of the buffer o: "an outgoing record buffer [needs] 16,619" bytes
+-- "an outgoing record buffer 16,619" bytes: as many as the longest record has
+abbrev pub outBytes : ℕ
+outBytes = 16619
+
+-- what writing a record asks of its parts and of the buffer o
 pub record Parts (o root : List ℕ) (p : ℕ) (path fragment : List ℕ) : Type 0 where
   pub root-len : length root ≡ 32
   pub nodes : p ≤ 6
   pub path-len : length path ≡ 32 * p
   pub fragment-len : length fragment ≤ 16388
-  pub room : 16619 ≤ length o
+  pub room : outBytes ≤ length o

@@ -11,7 +11,7 @@ use Rattle.octets.specs.Bytes.{pick, part, tab, fourAt}
 use Rattle.octets.proofs.Walk.{lt-or-le}
 use Rattle.octets.proofs.Parts.{getD-part, part-front, part-all}
 use Rattle.sha256.specs.Tables.{H0}
-use Rattle.sha256.specs.Sha256.{byteOf, word, next, words, rounds, sums, compress, pad, block, chain, digest, sha256}
+use Rattle.sha256.specs.Sha256.{byteOf, wordAt, nextWord, words, rounds, sums, compress, pad, blockAt, chain, digest, sha256}
 use Rattle.sha256.specs.Chain.{chainFrom}
 use Rattle.sha256.proofs.Padding.{tail, length-pad, pad-zero, pad-length, pad-head, pad-body}
 
@@ -131,8 +131,8 @@ spread : (p : List ℕ) (a b c d : ℕ) → b ≡ a + 1 → c ≡ a + 2 → d �
 spread p a b c d e f g = rw (e, f, g) (omega arith)
 
 -- word t of the block from `at` on, whatever words stand before it
-front : (p : List ℕ) (at : ℕ) (ws : List ℕ) (t : ℕ) → t < 16 → next (part at 64 p) ws t ≡ fourAt p (at + 4 * t)
-unfolding next pick word fourAt
+front : (p : List ℕ) (at : ℕ) (ws : List ℕ) (t : ℕ) → t < 16 → nextWord (part at 64 p) ws t ≡ fourAt p (at + 4 * t)
+unfolding nextWord pick wordAt fourAt
 front p at ws t h =
     rw (
       lt-ltb t 16 h,
@@ -150,21 +150,21 @@ words-front p at (suc t) h =
     ap₂ (λ (l : List ℕ) (x : ℕ). l ++ (x ∷ [])) (words-front p at t (omega arith)) (front p at (words (part at 64 p) t) t (omega arith))
 
 -- block k, where it starts at `at`
-block-at : (p : List ℕ) (at : ℕ) → at % 64 ≡ 0 → part at 64 p ≡ block (at / 64) p
-unfolding block
+block-at : (p : List ℕ) (at : ℕ) → at % 64 ≡ 0 → part at 64 p ≡ blockAt (at / 64) p
+unfolding blockAt
 block-at p at h = let e : at ≡ 64 * (at / 64) = omega arith in ap (λ (i : ℕ). part i 64 p) e
 
 -- ---- the chaining
 
 -- a block of 64 bytes stands first in its own padded message
-pub one-block : (b h r : List ℕ) → length b ≡ 64 → r ≡ compress h (block 0 (pad b)) → r ≡ compress h b
-unfolding block pad
+pub one-block : (b h r : List ℕ) → length b ≡ 64 → r ≡ compress h (blockAt 0 (pad b)) → r ≡ compress h b
+unfolding blockAt pad
 one-block b h r len hr = hr ∙ ap (compress h) (part-front 0 64 b _ (omega arith) ∙ part-all 64 b len)
 
 chain-from : (p : List ℕ) (n : ℕ) → chainFrom H0 n p ≡ chain n p
 unfolding chainFrom chain
 chain-from p zero = refl
-chain-from p (suc n) = ap (λ (h : List ℕ). compress h (block n p)) (chain-from p n)
+chain-from p (suc n) = ap (λ (h : List ℕ). compress h (blockAt n p)) (chain-from p n)
 
 -- all blocks, from the starting words on, and the digest
 pub all-blocks : (m first h : List ℕ) (n : ℕ) → n ≡ length (pad m) → first ≡ H0 → h ≡ chainFrom first (n / 64) (pad m) → digest h ≡ sha256 m
@@ -178,12 +178,12 @@ mixed-made b h w s r hw hs hr = rw (hr, hs, hw)
 
 -- the words from `at` on are those of a block
 pub block-on : (h r p l : List ℕ) (at : ℕ) → at % 64 ≡ 0 → l ≡ tab 16 (λ t. fourAt p (at + 4 * t))
-    → ((b : List ℕ) → l ≡ words b 16 → r ≡ compress h b) → r ≡ compress h (block (at / 64) p)
+    → ((b : List ℕ) → l ≡ words b 16 → r ≡ compress h b) → r ≡ compress h (blockAt (at / 64) p)
 block-on h r p l at z hl hr =
-    hr (block (at / 64) p) (hl ∙ sym (words-front p at 16 (omega arith)) ∙ ap (λ (b : List ℕ). words b 16) (block-at p at z))
+    hr (blockAt (at / 64) p) (hl ∙ sym (words-front p at 16 (omega arith)) ∙ ap (λ (b : List ℕ). words b 16) (block-at p at z))
 
 -- the block from `at` on, taken in
-pub chain-on : (first h r p : List ℕ) (at : ℕ) → at % 64 ≡ 0 → h ≡ chainFrom first (at / 64) p → r ≡ compress h (block (at / 64) p)
+pub chain-on : (first h r p : List ℕ) (at : ℕ) → at % 64 ≡ 0 → h ≡ chainFrom first (at / 64) p → r ≡ compress h (blockAt (at / 64) p)
     → r ≡ chainFrom first ((at + 64) / 64) p
 unfolding chainFrom
 chain-on first h r p at z hh hr = let e : (at + 64) / 64 ≡ suc (at / 64) = omega arith in hr ∙ rw (hh, e)

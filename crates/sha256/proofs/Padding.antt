@@ -7,20 +7,20 @@ use native.Mathlib.Omega.{arith}
 use lib.ListN.{length, getD, replicate, length-append, length-replicate, getD-replicate, List·getD-append}
 use Rattle.octets.proofs.Tables.{getD-right, length-tab, getD-tab}
 use Rattle.octets.specs.Bytes.{tab}
-use Rattle.sha256.specs.Sha256.{byteOf, zeros, pad}
+use Rattle.sha256.specs.Sha256.{byteOf, padZeros, pad}
 
 -- where the length's eight bytes start
 abbrev pub tail : ℕ → ℕ
 tail n = (n + 8) / 64 * 64 + 56
 
 pub length-pad : (m : List ℕ) → length (pad m) ≡ tail (length m) + 8
-unfolding pad zeros
+unfolding pad padZeros
 length-pad m =
     simp (length-append, length-replicate, length-tab) (omega arith)
 
 -- what is put after the message, and after its one bit
 abbrev after : List ℕ → List ℕ
-after m = replicate (zeros (length m)) 0 ++ tab 8 (byteOf 8 (8 * length m))
+after m = replicate (padZeros (length m)) 0 ++ tab 8 (byteOf 8 (8 * length m))
 
 abbrev rest : List ℕ → List ℕ
 rest m = 128 ∷ (after m)
@@ -43,18 +43,18 @@ module _ (m : List ℕ) (i : ℕ) where
       getD-right m (rest m) i (omega arith) ∙ ap (λ (k : ℕ). getD (rest m) k 0) s
 
   pub pad-zero : length m < i → i < tail (length m) → getD (pad m) i 0 ≡ 0
-  unfolding zeros
+  unfolding padZeros
   pad-zero a b =
       past a
-      ∙ List·getD-append (replicate (zeros (length m)) 0) (tab 8 (byteOf 8 (8 * length m))) 0 (i - length m - 1) (rw length-replicate (omega arith))
-      ∙ getD-replicate (zeros (length m)) (i - length m - 1) 0 0 (omega arith)
+      ∙ List·getD-append (replicate (padZeros (length m)) 0) (tab 8 (byteOf 8 (8 * length m))) 0 (i - length m - 1) (rw length-replicate (omega arith))
+      ∙ getD-replicate (padZeros (length m)) (i - length m - 1) 0 0 (omega arith)
 
   pub pad-length : tail (length m) ≤ i → i < length (pad m) → getD (pad m) i 0 ≡ byteOf 8 (8 * length m) (i - tail (length m))
-  unfolding zeros
+  unfolding padZeros
   pad-length a b =
-      let j : i - length m - 1 - zeros (length m) ≡ i - tail (length m) = omega arith in
+      let j : i - length m - 1 - padZeros (length m) ≡ i - tail (length m) = omega arith in
       past (omega arith)
-      ∙ getD-right (replicate (zeros (length m)) 0) (tab 8 (byteOf 8 (8 * length m))) (i - length m - 1) (rw length-replicate (omega arith))
+      ∙ getD-right (replicate (padZeros (length m)) 0) (tab 8 (byteOf 8 (8 * length m))) (i - length m - 1) (rw length-replicate (omega arith))
       ∙ rw (length-replicate, j) (getD-tab 8 (byteOf 8 (8 * length m)) (i - tail (length m)) (omega (arith, length-pad m)))
 
 -- the bytes of the two parts of a message

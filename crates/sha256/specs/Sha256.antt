@@ -10,23 +10,23 @@ use Rattle.sha256.specs.Tables.{K, H0}
 -- ---- the schedule, 6.2.2 step 1
 
 -- word t of a block, high byte first
-unfoldable pub word : List ℕ → ℕ → ℕ
-word b t = getD b (4 * t) 0 * 2 ^ 24 + getD b (4 * t + 1) 0 * 2 ^ 16 + getD b (4 * t + 2) 0 * 2 ^ 8 + getD b (4 * t + 3) 0
+unfoldable pub wordAt : List ℕ → ℕ → ℕ
+wordAt b t = getD b (4 * t) 0 * 2 ^ 24 + getD b (4 * t + 1) 0 * 2 ^ 16 + getD b (4 * t + 2) 0 * 2 ^ 8 + getD b (4 * t + 3) 0
 
 -- from the words 2, 7, 15 and 16 places back
 unfoldable pub expand : ℕ → ℕ → ℕ → ℕ → ℕ
 expand w₂ w₇ w₁₅ w₁₆ = σ₁ w₂ ⊞ w₇ ⊞ σ₀ w₁₅ ⊞ w₁₆
 
 -- word t, from the t words before it
-unfoldable pub next : List ℕ → List ℕ → ℕ → ℕ
-next b ws t =
-    pick (ltb t 16) (word b t)
+unfoldable pub nextWord : List ℕ → List ℕ → ℕ → ℕ
+nextWord b ws t =
+    pick (ltb t 16) (wordAt b t)
     (expand (getD ws (t - 2) 0) (getD ws (t - 7) 0) (getD ws (t - 15) 0) (getD ws (t - 16) 0))
 
 -- the first n words
 unfoldable pub words : List ℕ → ℕ → List ℕ
 words b zero = []
-words b (suc t) = words b t ++ (next b (words b t) t ∷ [])
+words b (suc t) = words b t ++ (nextWord b (words b t) t ∷ [])
 
 -- ---- the rounds, 6.2.2 steps 2 and 3
 
@@ -70,21 +70,21 @@ unfoldable pub byteOf : ℕ → ℕ → ℕ → ℕ
 byteOf n x j = x / 2 ^ (8 * (n - 1 - j)) % 2 ^ 8
 
 -- the fewest zeros that fill the last block up
-unfoldable pub zeros : ℕ → ℕ
-zeros n = (119 - n % 64) % 64
+unfoldable pub padZeros : ℕ → ℕ
+padZeros n = (119 - n % 64) % 64
 
 -- 5.1.1: the message, a one bit, zeros, and the length in bits as eight bytes
 unfoldable pub pad : List ℕ → List ℕ
-pad m = m ++ (128 ∷ (replicate (zeros (length m)) 0 ++ tab 8 (byteOf 8 (8 * length m))))
+pad m = m ++ (128 ∷ (replicate (padZeros (length m)) 0 ++ tab 8 (byteOf 8 (8 * length m))))
 
 -- block n of a padded message
-unfoldable pub block : ℕ → List ℕ → List ℕ
-block n p = part (64 * n) 64 p
+unfoldable pub blockAt : ℕ → List ℕ → List ℕ
+blockAt n p = part (64 * n) 64 p
 
 -- the chaining words after n blocks
 unfoldable pub chain : ℕ → List ℕ → List ℕ
 chain zero p = H0
-chain (suc n) p = compress (chain n p) (block n p)
+chain (suc n) p = compress (chain n p) (blockAt n p)
 
 -- the chaining words as bytes
 unfoldable pub digest : List ℕ → List ℕ

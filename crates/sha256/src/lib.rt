@@ -6,7 +6,7 @@ ghost use lib.ListN.{length, take};
 ghost use Rattle.octets.specs.Bytes.{part};
 ghost use Rattle.sha256.specs.Words.{rotr, ch, maj, Σ₀, Σ₁, σ₀, σ₁};
 ghost use Rattle.sha256.specs.Tables.{K, H0};
-ghost use Rattle.sha256.specs.Sha256.{T₁, T₂, expand, round, sums, words, rounds, compress, block};
+ghost use Rattle.sha256.specs.Sha256.{T₁, T₂, expand, round, sums, words, rounds, compress};
 use std::num::wrapping_add_u32;
 
 // The 64 round constants, eight to a table: read at places known before, so that no table is copied to the stack.

@@ -2,22 +2,15 @@
 use mathlib.Core.Path.{_≡_}
 use Prim.Native.Nat.{ℕ, _/_, _^_, _≤_, _<_}
 use mathlib.Core.Bool.{true}
-use borrow.Author.Tests.{leb-true}
 use native.Mathlib.Omega.{arith}
-use lib.Dec.{leb, eqb}
+use lib.Dec.{eqb}
 use Rattle.octets.specs.Sets.{every}
 use Rattle.octets.proofs.Picks.{and-l, and-r}
 use Rattle.octets.proofs.SetLaws.{every-at}
-use Rattle.boards.specs.Table.{limits}
-use Rattle.boards.specs.declared.Table.{Table}
+use Rattle.table.specs.Table.{limits, isBoard}
 use Rattle.state.specs.State.{State}
-use Rattle.state.specs.Sound.{isBoard, setsOk, flagsOk, boardOk, quiet, sound}
+use Rattle.state.specs.Sound.{setsOk, flagsOk, boardOk, quiet, sound}
 use Rattle.octets.proofs.Members.{every-all, below-lt, lt-below}
-
--- a board's number is from 1 to n
-pub board-number : (b : Table) (i : ℕ) → isBoard b i ≡ true → (1 ≤ i) × (i ≤ b .n)
-unfolding isBoard
-board-number b i h = (leb-true 1 i (and-l (leb 1 i) _ h), leb-true i (b .n) (and-r (leb 1 i) _ h))
 
 -- a sound state's table is within its limits
 pub sound-limits : (v : State) → sound v ≡ true → limits (v .table) ≡ true

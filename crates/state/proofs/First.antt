@@ -9,10 +9,10 @@ use lib.Dec.{leb, eqb}
 use lib.ListN.{length, getD}
 use Rattle.octets.specs.Bytes.{part, same, eightAt}
 use Rattle.octets.specs.Sets.{has}
-use Rattle.boards.specs.Table.{limits, mostOf, someOf}
-use Rattle.boards.specs.declared.Table.{Table}
-use Rattle.boards.proofs.Within.{within}
-use Rattle.state.specs.State.{tableOf, ownOf, marksOf, view, viewOf, flag, lenAt, echoAt, voteAt}
+use Rattle.table.specs.Table.{limits, mostOf, someOf}
+use Rattle.table.specs.declared.Table.{Table}
+use Rattle.table.proofs.Within.{within}
+use Rattle.state.specs.State.{fixedBytes, tableOf, ownOf, marksOf, view, viewOf, flag, lenAt, echoAt, voteAt}
 use Rattle.state.specs.Sound.{usableOk, lengthOk, boardOk, naming, reaches, waitsAt, waits, quiet, sound}
 use Rattle.state.specs.declared.Marks.{Marks}
 use Rattle.octets.proofs.Members.{setOf-ext, every-ext, some-ext, two-ext, eight-ext, part-ext}
@@ -33,16 +33,16 @@ module _ (n set : ℕ) (f g : ℕ → List ℕ) (roots : (i : ℕ) → i < n →
       ap (λ (x : ℕ). has set i && leb q (ones x)) (naming-ext (f i))
       ∙ ap (λ (x : List ℕ). has set i && leb q (ones (naming n set g x))) (roots i (omega arith)))
 
-module _ (s t : List ℕ) (long : 4608 ≤ length s) (long′ : 4608 ≤ length t) (first : (i : ℕ) → i < 4608 → getD s i 0 ≡ getD t i 0) where
+module _ (s t : List ℕ) (long : fixedBytes ≤ length s) (long′ : fixedBytes ≤ length t) (first : (i : ℕ) → i < fixedBytes → getD s i 0 ≡ getD t i 0) where
   echo-first : (i : ℕ) → i < 64 → part (echoAt i) 32 s ≡ part (echoAt i) 32 t
-  echo-first i h = part-ext s t 4608 first (echoAt i) 32 (omega arith) long long′
+  echo-first i h = part-ext s t fixedBytes first (echoAt i) 32 (omega arith) long long′
 
   vote-first : (i : ℕ) → i < 64 → part (voteAt i) 32 s ≡ part (voteAt i) 32 t
-  vote-first i h = part-ext s t 4608 first (voteAt i) 32 (omega arith) long long′
+  vote-first i h = part-ext s t fixedBytes first (voteAt i) 32 (omega arith) long long′
 
   table-first : tableOf s ≡ tableOf t
   unfolding tableOf
-  table-first = rw (first 0 (omega arith), first 1 (omega arith), first 2 (omega arith), two-ext s t 4608 first 4 (omega arith))
+  table-first = rw (first 0 (omega arith), first 1 (omega arith), first 2 (omega arith), two-ext s t fixedBytes first 4 (omega arith))
 
   own-first : ownOf s ≡ ownOf t
   unfolding ownOf
@@ -51,8 +51,8 @@ module _ (s t : List ℕ) (long : 4608 ≤ length s) (long′ : 4608 ≤ length 
   marks-first : marksOf s ≡ marksOf t
   unfolding marksOf
   marks-first =
-      let o : (i : ℕ) → i < 4608 → flag s i ≡ flag t i = λ i h. ap (λ (x : ℕ). not (eqb x 0)) (first i h) in
-      let e : (a : ℕ) → a + 8 ≤ 4608 → eightAt s a ≡ eightAt t a = eight-ext s t 4608 first in
+      let o : (i : ℕ) → i < fixedBytes → flag s i ≡ flag t i = λ i h. ap (λ (x : ℕ). not (eqb x 0)) (first i h) in
+      let e : (a : ℕ) → a + 8 ≤ fixedBytes → eightAt s a ≡ eightAt t a = eight-ext s t fixedBytes first in
       λ j. record {
         acquired = o 6 (omega arith) j;
         voted = o 7 (omega arith) j;
@@ -66,7 +66,7 @@ module _ (s t : List ℕ) (long : 4608 ≤ length s) (long′ : 4608 ≤ length 
   module _ (b : Table) (m : Marks) (few : b .n ≤ 64) where
     board-first : (i : ℕ) → i < 64 → boardOk (viewOf b m s) i ≡ boardOk (viewOf b m t) i
     unfolding boardOk usableOk lengthOk
-    board-first i h = rw (two-ext s t 4608 first (lenAt i) (omega arith))
+    board-first i h = rw (two-ext s t fixedBytes first (lenAt i) (omega arith))
 
     waits-first : waits (viewOf b m s) ≡ waits (viewOf b m t)
     unfolding waits waitsAt

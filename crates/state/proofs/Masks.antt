@@ -10,23 +10,13 @@ use lib.Bits.{bitOr}
 use Rattle.octets.specs.Bytes.{pick}
 use Rattle.octets.specs.Sets.{has}
 use Rattle.state.specs.Kept.{member, masked}
-use Rattle.octets.proofs.Members.{has-add, has-low}
-
-holds : (b : Bool) → T b → b ≡ true
-holds true t = refl
-holds false t = absurd t
+use Rattle.octets.proofs.Members.{has-add}
 
 -- one board more
 pub member-add : (set i k : ℕ) → member (bitOr set (2 ^ i)) k ≡ pick (eqb k (suc i)) true (member set k)
 unfolding member pick
 member-add set i zero = ap (λ (x : Bool). pick x true false) (sym (eqb·zero-suc i))
 member-add set i (suc k) = has-add set i k ∙ ap (λ (x : Bool). pick x true (has set k)) (sym (eqb·suc-suc k i))
-
--- a set below 2 ^ n names boards from 1 to n
-pub member-low : (n set k : ℕ) → set < 2 ^ n → T (member set k) → (1 ≤ k) × (k ≤ n)
-unfolding member
-member-low n set zero h t = absurd t
-member-low n set (suc k) h t = (omega arith, has-low n set k h (holds (has set k) t))
 
 -- where the boards of a set keep what they had, the same is seen
 pub masked-same : (set : ℕ) (f g : ℕ → List ℕ) → ((j : ℕ) → T (member set (suc j)) → g j ≡ f j) → (k : ℕ) → masked set g k ≡ masked set f k

@@ -2,17 +2,15 @@
 use Prim.Native.Nat.{ℕ, suc, _+_, _≤_, _<_}
 use native.Mathlib.Omega.{arith}
 use native.Mathlib.Nat.{mul-le-mul-right, suc-mul}
-use mathlib.Core.Bool.{not}
 use mathlib.Core.Path.{_≡_, subst, sym, _∙_, ap}
 use mathlib.Core.Logic.{_⊎_, inl, inr, ⊎-elim}
 use mathlib.Core.List.{List}
 use lib.ListN.{length, getD}
-use lib.Dec.{eqb}
 use Rattle.octets.specs.Bytes.{part, put, two, twoAt}
 use Rattle.octets.proofs.Laws.{length-put}
-use Rattle.octets.proofs.Frame.{byte-out, part-out, two-out, eight-out, part-in, two-in}
+use Rattle.octets.proofs.Frame.{byte-out, part-out, two-out, part-in, two-in}
 use Rattle.octets.proofs.Walk.{lt-or-le}
-use Rattle.state.specs.State.{tableOf, ownOf, marksOf, flag, lenAt, echoAt, voteAt, fragmentAt}
+use Rattle.state.specs.State.{fixedBytes, tableOf, ownOf, lenAt, echoAt, voteAt, fragmentAt}
 
 -- ---- puts beyond the marks
 
@@ -26,23 +24,9 @@ pub put-own : (a : ℕ) (v s : List ℕ) → 40 ≤ a → ownOf (put a v s) ≡ 
 unfolding ownOf
 put-own a v s h = byte-out a v s 3 (inl (omega arith))
 
-pub put-marks : (a : ℕ) (v s : List ℕ) → 40 ≤ a → marksOf (put a v s) ≡ marksOf s
-unfolding marksOf
-put-marks a v s h =
-    let o : (i : ℕ) → i < 40 → flag (put a v s) i ≡ flag s i = λ i l. ap (λ (x : ℕ). not (eqb x 0)) (byte-out a v s i (inl (omega arith))) in
-    λ j. record {
-      acquired = o 6 (omega arith) j;
-      voted = o 7 (omega arith) j;
-      output = o 8 (omega arith) j;
-      done = o 9 (omega arith) j;
-      echoes = eight-out a v s 10 (inl (omega arith)) j;
-      usable = eight-out a v s 18 (inl (omega arith)) j;
-      votes = eight-out a v s 26 (inl (omega arith)) j;
-    }
-
 -- ---- a kept vote's root
 
-module _ (i : ℕ) (root s : List ℕ) (hi : i < 64) (lr : length root ≡ 32) (long : 4608 ≤ length s) where
+module _ (i : ℕ) (root s : List ℕ) (hi : i < 64) (lr : length root ≡ 32) (long : fixedBytes ≤ length s) where
   pub vote-new : part (voteAt i) 32 (put (voteAt i) root s) ≡ root
   vote-new = subst (λ x. part (voteAt i) x (put (voteAt i) root s) ≡ root) lr (part-in (voteAt i) root s (omega arith))
 
@@ -55,7 +39,7 @@ module _ (i : ℕ) (root s : List ℕ) (hi : i < 64) (lr : length root ≡ 32) (
   pub vote-len : (j : ℕ) → j < 64 → twoAt (put (voteAt i) root s) (lenAt j) ≡ twoAt s (lenAt j)
   vote-len j hj = two-out (voteAt i) root s (lenAt j) (inl (omega arith))
 
-  pub vote-fragment : (a n : ℕ) → 4608 ≤ a → part a n (put (voteAt i) root s) ≡ part a n s
+  pub vote-fragment : (a n : ℕ) → fixedBytes ≤ a → part a n (put (voteAt i) root s) ≡ part a n s
   vote-fragment a n h = part-out (voteAt i) root s a n (inr (omega arith))
 
 -- ---- a kept echo's root, length and fragment
@@ -67,7 +51,7 @@ apart max i j f l hf hl ne =
     (λ a. inr (omega (arith, suc-mul i max, mul-le-mul-right max (let z : suc i ≤ j = omega (arith, ne) in z)))) (lt-or-le j i)
 
 module _ (max i f : ℕ) (root fragment s : List ℕ) (hi : i < 64) (lr : length root ≡ 32) (lf : length fragment ≡ f) (hf : f ≤ max) (small : f < 65536)
-    (long : 4608 ≤ length s) (room : fragmentAt max i + f ≤ length s) where
+    (long : fixedBytes ≤ length s) (room : fragmentAt max i + f ≤ length s) where
   abbrev rooted : List ℕ
   rooted = put (echoAt i) root s
 
@@ -84,19 +68,10 @@ module _ (max i f : ℕ) (root fragment s : List ℕ) (hi : i < 64) (lr : length
   sized-length : length sized ≡ length s
   sized-length = length-put (lenAt i) (two f) rooted ∙ rooted-length
 
-  pub echoed-length : length echoed ≡ length s
-  echoed-length = length-put (fragmentAt max i) fragment sized ∙ sized-length
-
-  pub echoed-table : tableOf echoed ≡ tableOf s
-  echoed-table = put-table (fragmentAt max i) fragment sized (omega arith) ∙ put-table (lenAt i) (two f) rooted (omega arith) ∙ put-table (echoAt i) root s (omega arith)
-
   pub echoed-own : ownOf echoed ≡ ownOf s
   echoed-own = put-own (fragmentAt max i) fragment sized (omega arith) ∙ put-own (lenAt i) (two f) rooted (omega arith) ∙ put-own (echoAt i) root s (omega arith)
 
-  pub echoed-marks : marksOf echoed ≡ marksOf s
-  echoed-marks = put-marks (fragmentAt max i) fragment sized (omega arith) ∙ put-marks (lenAt i) (two f) rooted (omega arith) ∙ put-marks (echoAt i) root s (omega arith)
-
-  up : (b n : ℕ) → b + n ≤ 4608 → (lenAt i + 2 ≤ b) → part b n echoed ≡ part b n rooted
+  up : (b n : ℕ) → b + n ≤ fixedBytes → (lenAt i + 2 ≤ b) → part b n echoed ≡ part b n rooted
   up b n h k = part-out (fragmentAt max i) fragment sized b n (inl (omega arith)) ∙ part-out (lenAt i) (two f) rooted b n (inr (omega arith))
 
   pub echo-new : part (echoAt i) 32 echoed ≡ root

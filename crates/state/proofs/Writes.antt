@@ -11,8 +11,8 @@ use Rattle.octets.specs.Bytes.{put, part, eightAt, eight}
 use Rattle.octets.proofs.Laws.{length-put, getD-put-in}
 use Rattle.octets.proofs.Frame.{byte-out, part-out, two-out, eight-out, eight-in}
 use Rattle.octets.specs.Sets.{bit}
-use Rattle.state.specs.State.{tableOf, ownOf, marksOf, marksBytes, flag, view, viewOf, lenAt, echoAt, voteAt}
-use Rattle.boards.specs.declared.Table.{Table}
+use Rattle.state.specs.State.{fixedBytes, tableOf, ownOf, marksOf, marksBytes, flag, view, viewOf, lenAt, echoAt, voteAt}
+use Rattle.table.specs.declared.Table.{Table}
 use Rattle.state.specs.declared.Marks.{Marks}
 
 -- sets of 64 bits
@@ -37,7 +37,7 @@ unfolding marksBytes
 length-marks m = refl
 
 -- a flag is read back
-flag-back : (m : Marks) (s : List ℕ) (i : ℕ) (b : Bool) → 4608 ≤ length s → i < 4 → getD (flags m) i 0 ≡ bit b → flag (put 6 (marksBytes m) s) (6 + i) ≡ b
+flag-back : (m : Marks) (s : List ℕ) (i : ℕ) (b : Bool) → fixedBytes ≤ length s → i < 4 → getD (flags m) i 0 ≡ bit b → flag (put 6 (marksBytes m) s) (6 + i) ≡ b
 unfolding marksBytes flags
 flag-back m s i b h k e =
     ap (λ (x : ℕ). not (eqb x 0)) (getD-put-in (marksBytes m) s 6 i (omega arith) (omega arith) ∙ (List·getD-append (flags m) (eight (m .echoes) ++ (eight (m .usable) ++ eight (m .votes))) 0 i k ∙ e))
@@ -67,11 +67,11 @@ rest-kept m s b n =
     }
 
 -- nor any fragment
-pub fragment-kept : (m : Marks) (s : List ℕ) (a n : ℕ) → 4608 ≤ a → part a n (put 6 (marksBytes m) s) ≡ part a n s
+pub fragment-kept : (m : Marks) (s : List ℕ) (a n : ℕ) → fixedBytes ≤ a → part a n (put 6 (marksBytes m) s) ≡ part a n s
 fragment-kept m s a n h = part-out 6 (marksBytes m) s a n (inr (omega (arith, length-marks m)))
 
 -- the marks are read back
-pub marks-back : (m : Marks) (s : List ℕ) → 4608 ≤ length s → Fit m → marksOf (put 6 (marksBytes m) s) ≡ m
+pub marks-back : (m : Marks) (s : List ℕ) → fixedBytes ≤ length s → Fit m → marksOf (put 6 (marksBytes m) s) ≡ m
 unfolding marksOf flags
 marks-back m s h f =
     let s1 = put 6 (flags m) s in
@@ -99,5 +99,5 @@ marks-back m s h f =
     }
 
 -- so the state is the one before, with these marks
-pub view-marks : (m : Marks) (s : List ℕ) → 4608 ≤ length s → Fit m → view (put 6 (marksBytes m) s) ≡ viewOf (tableOf s) m s
+pub view-marks : (m : Marks) (s : List ℕ) → fixedBytes ≤ length s → Fit m → view (put 6 (marksBytes m) s) ≡ viewOf (tableOf s) m s
 view-marks m s h f = rw (table-kept m s, marks-back m s h f) (rest-kept m s (tableOf s) m)

@@ -1,4 +1,4 @@
--- What the contracts of `state` and `soundness` cite.
+-- What the contracts of `state` and `state_sound` cite.
 pub mod State
 pub mod Sound
 pub mod Kept

@@ -6,14 +6,10 @@ use lib.Dec.{leb, ltb, eqb}
 use lib.Count.{ones}
 use Rattle.octets.specs.Bytes.{pick, same}
 use Rattle.octets.specs.Sets.{has, every, some, setOf}
-use Rattle.boards.specs.Table.{limits, kOf, sMax, mostOf, someOf}
-use Rattle.boards.specs.declared.Table.{Table}
+use Rattle.table.specs.Table.{limits, isBoard, kOf, sMax, mostOf, someOf}
+use Rattle.table.specs.declared.Table.{Table}
 use Rattle.state.specs.State.{State}
 use Rattle.state.specs.declared.Marks.{Marks}
-
--- "boards numbered 1 to n": whether i is the number of a board; "its table is within limits" asks it of the own number
-unfoldable pub isBoard : Table → ℕ → Bool
-isBoard b i = leb 1 i && leb i (b .n)
 
 -- "no set names a board above n"
 unfoldable pub setsOk : Table → Marks → Bool

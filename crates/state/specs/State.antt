@@ -6,22 +6,36 @@ use lib.ListN.{getD}
 use lib.Dec.{eqb}
 use Rattle.octets.specs.Bytes.{twoAt, eightAt, part, eight}
 use Rattle.octets.specs.Sets.{bit}
-use Rattle.boards.specs.Table.{sMax}
-use Rattle.boards.specs.declared.Table.{Table}
+use Rattle.table.specs.Table.{sMax}
+use Rattle.table.specs.declared.Table.{Table}
 use Rattle.state.specs.declared.Marks.{Marks}
+
+-- the first bytes of a state, all that soundness looks at: "4,608 + n × s_max bytes"
+abbrev pub fixedBytes : ℕ
+fixedBytes = 4608
+
+-- where the kept lengths, the echoes' roots and the votes' roots begin
+abbrev pub keptLengths : ℕ
+keptLengths = 40
+
+abbrev pub echoRoots : ℕ
+echoRoots = 256
+
+abbrev pub voteRoots : ℕ
+voteRoots = 2304
 
 -- where the length, the echo's root, the vote's root and the fragment kept of board i + 1 lie
 abbrev pub lenAt : ℕ → ℕ
-lenAt i = 40 + 2 * i
+lenAt i = keptLengths + 2 * i
 
 abbrev pub echoAt : ℕ → ℕ
-echoAt i = 256 + 32 * i
+echoAt i = echoRoots + 32 * i
 
 abbrev pub voteAt : ℕ → ℕ
-voteAt i = 2304 + 32 * i
+voteAt i = voteRoots + 32 * i
 
 abbrev pub fragmentAt : ℕ → ℕ → ℕ
-fragmentAt max i = 4608 + i * max
+fragmentAt max i = fixedBytes + i * max
 
 -- a flag is false if its byte is 0 and true otherwise
 abbrev pub flag : List ℕ → ℕ → Bool
@@ -29,7 +43,7 @@ flag s a = not (eqb (getD s a 0) 0)
 
 -- "a state buffer needs 4,608 + n × s_max bytes"
 unfoldable pub stateSize : Table → ℕ
-stateSize b = 4608 + b .n * sMax b
+stateSize b = fixedBytes + b .n * sMax b
 
 -- "these four are the table"
 unfoldable pub tableOf : List ℕ → Table

@@ -1,13 +1,13 @@
 // A board's state in a lent buffer.
-use boards::Table;
-use boards::fragment_most;
-use boards::member;
-use boards::size;
 use octets::eight_at;
 use octets::put_eight;
 use octets::same_at;
 use octets::two_at;
 use octets::wide;
+use table::Table;
+use table::fragment_most;
+use table::has_board;
+use table::size;
 ghost use mathlib.Core.Path.{_≡_};
 ghost use mathlib.Core.Bool.{true, _&&_};
 ghost use Prim.Native.Nat.{_+_, _*_, _≤_, _<_};
@@ -15,9 +15,19 @@ ghost use lib.ListN.{length};
 ghost use lib.Count.{ones};
 ghost use Rattle.octets.specs.Bytes.{part, put, same};
 ghost use Rattle.octets.specs.Sets.{has, bit};
-ghost use Rattle.boards.specs.Table.{limits};
-ghost use Rattle.state.specs.State.{stateSize, tableOf, ownOf, marksOf, marksBytes};
-ghost use Rattle.state.specs.Sound.{isBoard, naming};
+ghost use Rattle.table.specs.Table.{limits};
+ghost use Rattle.state.specs.State.{voteRoots, fixedBytes, stateSize, tableOf, ownOf, marksOf, marksBytes};
+ghost use Rattle.state.specs.Sound.{naming};
+
+// The first bytes of a state, all that soundness looks at; the fragments kept follow.
+pub const FIXED_BYTES: usize = 4608;
+
+// Where the kept lengths, the echoes' roots and the votes' roots begin.
+pub const KEPT_LENGTHS: usize = 40;
+
+pub const ECHO_ROOTS: usize = 256;
+
+pub const VOTE_ROOTS: usize = 2304;
 
 // What a state keeps beside the table, roots, lengths and fragments. Board i is bit i - 1 of a set.
 pub struct Marks {
@@ -35,12 +45,12 @@ pub fn state_size(b: Table) -> usize
     requires { ⌜ limits b ≡ true ⌝ }
     ensures { λ r. ⌜ r ≡ stateSize b ⌝ }
 {
-    4608 + b.n * fragment_most(b)
+    FIXED_BYTES + b.n * fragment_most(b)
 }
 
 // The table in a state.
 pub fn read_table(s: &[u8]) -> Table
-    requires { ⌜ 4608 ≤ length (now s) ⌝ }
+    requires { ⌜ fixedBytes ≤ length (now s) ⌝ }
     ensures { λ r. ⌜ r ≡ tableOf (now (s .entry)) ⌝ }
 {
     Table {
@@ -53,7 +63,7 @@ pub fn read_table(s: &[u8]) -> Table
 
 // The own number in a state.
 pub fn read_own(s: &[u8]) -> usize
-    requires { ⌜ 4608 ≤ length (now s) ⌝ }
+    requires { ⌜ fixedBytes ≤ length (now s) ⌝ }
     ensures { λ r. ⌜ r ≡ ownOf (now (s .entry)) ⌝ }
 {
     wide(s[3])
@@ -61,7 +71,7 @@ pub fn read_own(s: &[u8]) -> usize
 
 // The flags and sets in a state.
 pub fn read_marks(s: &[u8]) -> Marks
-    requires { ⌜ 4608 ≤ length (now s) ⌝ }
+    requires { ⌜ fixedBytes ≤ length (now s) ⌝ }
     ensures { λ r. ⌜ r ≡ marksOf (now (s .entry)) ⌝ }
 {
     Marks {
@@ -84,7 +94,7 @@ fn flag_byte(b: bool) -> u8
 
 // The flags and sets put into a state.
 pub fn write_marks(s: &mut [u8], m: Marks)
-    requires { ⌜ 4608 ≤ length (now s) ⌝ }
+    requires { ⌜ fixedBytes ≤ length (now s) ⌝ }
     ensures { λ _. ⌜ now (s .exit) ≡ put 6 (marksBytes m) (now (s .entry)) ⌝ }
 {
     s[6] = flag_byte(m.acquired);
@@ -105,10 +115,10 @@ fn set_bit(b: bool) -> u64
 
 // Whether board i + 1 is in the set and its root, kept from `base` on, is the one in `r` at `at`.
 fn names(s: &[u8], base: usize, set: u64, r: &[u8], at: usize, i: usize) -> bool
-    requires { ⌜ (4608 ≤ length (now s)) × ((base ≤ 2304) × ((at + 32 ≤ length (now r)) × (i < 64))) ⌝ }
+    requires { ⌜ (fixedBytes ≤ length (now s)) × ((base ≤ voteRoots) × ((at + 32 ≤ length (now r)) × (i < 64))) ⌝ }
     ensures { λ x. ⌜ x ≡ (has set i && same (part (base + 32 * i) 32 (now (s .entry))) (part at 32 (now (r .entry)))) ⌝ }
 {
-    if !member(set, i) {
+    if !has_board(set, i) {
         return false;
     }
     same_at(s, base + 32 * i, r, at, 32)
@@ -116,7 +126,7 @@ fn names(s: &[u8], base: usize, set: u64, r: &[u8], at: usize, i: usize) -> bool
 
 // The boards of a set whose roots, kept from `base` on, are the one in `r` at `at`.
 pub fn naming_set(s: &[u8], base: usize, set: u64, r: &[u8], at: usize, n: usize) -> u64
-    requires { ⌜ (4608 ≤ length (now s)) × ((base ≤ 2304) × ((at + 32 ≤ length (now r)) × (n ≤ 64))) ⌝ }
+    requires { ⌜ (fixedBytes ≤ length (now s)) × ((base ≤ voteRoots) × ((at + 32 ≤ length (now r)) × (n ≤ 64))) ⌝ }
     ensures { λ x. ⌜ x ≡ naming n set (λ i. part (base + 32 * i) 32 (now (s .entry))) (part at 32 (now (r .entry))) ⌝ }
 {
     let mut found = 0u64;
@@ -130,18 +140,8 @@ pub fn naming_set(s: &[u8], base: usize, set: u64, r: &[u8], at: usize, n: usize
 
 // How many boards these are.
 pub fn naming_count(s: &[u8], base: usize, set: u64, r: &[u8], at: usize, n: usize) -> usize
-    requires { ⌜ (4608 ≤ length (now s)) × ((base ≤ 2304) × ((at + 32 ≤ length (now r)) × (n ≤ 64))) ⌝ }
+    requires { ⌜ (fixedBytes ≤ length (now s)) × ((base ≤ voteRoots) × ((at + 32 ≤ length (now r)) × (n ≤ 64))) ⌝ }
     ensures { λ x. ⌜ x ≡ ones (naming n set (λ i. part (base + 32 * i) 32 (now (s .entry))) (part at 32 (now (r .entry)))) ⌝ }
 {
     size(naming_set(s, base, set, r, at, n))
-}
-
-// Whether a number is a board's: from 1 to n.
-pub fn is_board(b: Table, i: usize) -> bool
-    ensures { λ r. ⌜ r ≡ isBoard b i ⌝ }
-{
-    if i < 1 {
-        return false;
-    }
-    i <= b.n
 }

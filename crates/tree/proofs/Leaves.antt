@@ -11,7 +11,7 @@ use Rattle.octets.specs.Bytes.{pick}
 use Rattle.octets.proofs.Walk.{lt-or-le}
 use Rattle.sha256.specs.Sha256.{sha256}
 use Rattle.tree.specs.Tree.{Tree, tip, fork, treeOf, root, path, leafHash, nodeHash, rootOf, pathOf}
-use Rattle.tree.specs.Strings.{hashed, treeStrings}
+use Rattle.tree.specs.Strings.{hashed}
 use Rattle.tree.specs.Levels.{span}
 use Rattle.tree.proofs.Spans.{tree-span, span-fork, span-alone}
 
@@ -60,7 +60,3 @@ module _ (n : ℕ) (low : 1 ≤ n) (high : n ≤ 64) (fs gs : ℕ → List ℕ) 
   pub pathOf-alike : (i : ℕ) → pathOf n fs i ≡ pathOf n gs i
   unfolding pathOf
   pathOf-alike i = path-alike sha256 n fs gs same (treeOf n) (tree-below n low high) i
-
-  pub treeStrings-alike : treeStrings n fs ≡ treeStrings n gs
-  unfolding treeStrings
-  treeStrings-alike = hashed-alike sha256 n fs gs same (treeOf n) (tree-below n low high)

@@ -62,7 +62,7 @@ fn set_pair(pair: &mut [u8], h: &[u32; 8], at: usize, path: &[u8], from: usize)
     ensures { λ _. ⌜ (at ≡ 0 → now (pair .exit) ≡ digest (now (h .entry)) ++ part from 32 (now (path .entry)))
         × (at ≡ 32 → now (pair .exit) ≡ part from 32 (now (path .entry)) ++ digest (now (h .entry))) ⌝ }
 {
-    hashing::put_digest(h, pair, at);
+    sha256_strings::put_digest(h, pair, at);
     octets::copy_part(pair, 32 - at, path, from, 32);
 }
 
@@ -86,12 +86,12 @@ fn rise(
         return j;
     }
     set_pair(pair, h, side(i, m), path, 32 * j);
-    hashing::take_all(h, b"\x01", pair);
+    sha256_strings::take_all(h, b"\x01", pair);
     j + 1
 }
 
 // The digest of h, the hash of leaf i of n, taken up beside the nodes of the path. pair is room to work in. Called from one place, so that
-// the compiler folds it into the path check's frame: hence the climb of its own that crate rising has for the sender.
+// the compiler folds it into the path check's frame: hence the climb of its own that crate tree_stack has for the sender.
 fn rise_up(h: &mut [u32; 8], pair: &mut [u8], path: &[u8], n: usize, i: usize)
     requires { ⌜ (n ≤ 64) × (i < n) × (length (now h) ≡ 8) × (length (now pair) ≡ 64) × (length (now path) ≡ 32 * depth (treeOf n) i) ⌝ }
     ensures { λ _. ⌜ (length (now (h .exit)) ≡ 8) × (length (now (pair .exit)) ≡ 64)
@@ -132,18 +132,11 @@ pub fn correct(n: usize, i: usize, root: &[u8], path: &[u8], f: &[u8]) -> bool
         return false;
     }
     let mut h = sha256::begun();
-    hashing::take_all(&mut h, b"\0", f);
+    sha256_strings::take_all(&mut h, b"\0", f);
     let mut pair = [0u8; 64];
     rise_up(&mut h, &mut pair, path, n, i - 1);
-    hashing::put_digest(&h, &mut pair, 0);
+    sha256_strings::put_digest(&h, &mut pair, 0);
     octets::same_at(&pair, 0, root, 0, 32)
-}
-
-// The smaller one.
-pub fn least(x: usize, y: usize) -> usize
-    ensures { λ r. ⌜ r ≡ min x y ⌝ }
-{
-    if x < y { x } else { y }
 }
 
 // The first leaf of the tree beside leaf i at level d.
@@ -163,5 +156,5 @@ pub fn leaf_count(n: usize, d: usize, a: usize) -> usize
     requires { ⌜ (n ≤ 64) × (a < n) × (d ≤ 6) ⌝ }
     ensures { λ r. ⌜ (r ≡ min n (a + 2 ^ d) - a) × (0 < r) × (a + r ≤ n) ⌝ }
 {
-    least(n, a + width(d)) - a
+    octets::least(n, a + width(d)) - a
 }

@@ -11,17 +11,17 @@ use Rattle.octets.specs.Bytes.{pick, part, tab, fourAt}
 use Rattle.octets.specs.Sets.{has}
 use Rattle.record.specs.Form.{recordOf}
 use Rattle.record.proofs.Round.{vote-length}
-use Rattle.boards.specs.Table.{limits, kOf, mostOf, someOf}
+use Rattle.table.specs.Table.{limits, kOf, mostOf, someOf}
 use Rattle.tree.specs.Tree.{doubled, half, tree, treeOf, depth}
 use Rattle.field.specs.Field.{add, double, times, mul, power}
 use Rattle.field.specs.Tables.{logs, inverse}
 use Rattle.code.specs.Code.{value, row, fragmentByte, fragmentOf}
-use Rattle.code.specs.Block.{header, rows, block, readable, messageIn}
-use Rattle.encoding.specs.Message.{fragmentFor}
-use Rattle.rebuilding.specs.Rebuild.{Agrees}
-use Rattle.rebuilding.specs.Through.{attach, slopes, through, fragmentIn, blockThrough}
-use Rattle.rebuilding.proofs.Agree.{one-block}
-use Rattle.ground.specs.Encoding.{encodeRefusal}
+use Rattle.code.specs.Block.{header, rows, block, readable, blockMessage}
+use Rattle.code_encode.specs.Message.{fragmentFor}
+use Rattle.code_through.specs.Rebuild.{Agrees}
+use Rattle.code_through.specs.Through.{attach, slopes, through, fragmentInArea, blockThrough}
+use Rattle.code_through.proofs.Agree.{one-block}
+use Rattle.code_calls.specs.Encoding.{encodeRefusal}
 use Rattle.tumbeliko.specs.Tables.{tableFrom}
 
 -- the four fragments of the message 41 with n 4, t 1, one after the other
@@ -38,7 +38,7 @@ pub record ByHand : Type 0 where
   pub fragments41 : (fragmentFor (tableFrom 4 1 1 2) (0x41 ∷ []) 0 ≡ 0 ∷ 1 ∷ 0x41 ∷ []) × (fragmentFor (tableFrom 4 1 1 2) (0x41 ∷ []) 1 ≡ 0 ∷ 2 ∷ 0x41 ∷ [])
       × (fragmentFor (tableFrom 4 1 1 2) (0x41 ∷ []) 2 ≡ 0 ∷ 3 ∷ 0x41 ∷ []) × (fragmentFor (tableFrom 4 1 1 2) (0x41 ∷ []) 3 ≡ 0 ∷ 4 ∷ 0x41 ∷ [])
   -- numbers 2 and 4 alone give the block back: it is the block through them, and every block that agrees with them (bits 1 and 3 marked)
-  pub two-and-four : (blockThrough 3 (2 ∷ 4 ∷ []) (fragmentIn 3 3 area) ≡ block41) × ((d : List ℕ) → Agrees 4 2 3 3 10 area d → d ≡ block41)
+  pub two-and-four : (blockThrough 3 (2 ∷ 4 ∷ []) (fragmentInArea 3 3 area) ≡ block41) × ((d : List ℕ) → Agrees 4 2 3 3 10 area d → d ≡ block41)
   -- same table, empty message: four fragments 00 00
   pub fragments-none : (fragmentFor (tableFrom 4 1 1 2) [] 0 ≡ 0 ∷ 0 ∷ []) × (fragmentFor (tableFrom 4 1 1 2) [] 1 ≡ 0 ∷ 0 ∷ [])
       × (fragmentFor (tableFrom 4 1 1 2) [] 2 ≡ 0 ∷ 0 ∷ []) × (fragmentFor (tableFrom 4 1 1 2) [] 3 ≡ 0 ∷ 0 ∷ [])
@@ -55,7 +55,7 @@ pub record ByHand : Type 0 where
   -- k 2, L 16, block 00 00 00 03 41 00: refused 12
   pub unreadable : readable 2 16 (0 ∷ 0 ∷ 0 ∷ 3 ∷ 0x41 ∷ 0 ∷ []) ≡ false
   -- block 00 00 00 01 41 07 reads as 41
-  pub reads : (readable 2 16 (0 ∷ 0 ∷ 0 ∷ 1 ∷ 0x41 ∷ 7 ∷ []) ≡ true) × (messageIn (0 ∷ 0 ∷ 0 ∷ 1 ∷ 0x41 ∷ 7 ∷ []) ≡ 0x41 ∷ [])
+  pub reads : (readable 2 16 (0 ∷ 0 ∷ 0 ∷ 1 ∷ 0x41 ∷ 7 ∷ []) ≡ true) × (blockMessage (0 ∷ 0 ∷ 0 ∷ 1 ∷ 0x41 ∷ 7 ∷ []) ≡ 0x41 ∷ [])
 
 agrees41 : Agrees 4 2 3 3 10 area block41
 unfolding has fragmentOf fragmentByte row value part tab mul times double add
@@ -77,8 +77,8 @@ unfolding ones onesIn
 two-marked = omega arith
 
 pub by-hand : ByHand
-unfolding mul times double add fragmentFor fragmentOf fragmentByte row value block header rows part tab blockThrough through slopes attach inverse power logs fragmentIn
-    encodeRefusal pick limits depth treeOf tree half doubled readable messageIn fourAt
+unfolding mul times double add fragmentFor fragmentOf fragmentByte row value block header rows part tab blockThrough through slopes attach inverse power logs fragmentInArea
+    encodeRefusal pick limits depth treeOf tree half doubled readable blockMessage fourAt
 by-hand = record {
   products = (refl, refl, refl, refl);
   fragments41 = (refl, refl, refl, refl);

@@ -10,9 +10,9 @@ use lib.Dec.{ltb}
 use lib.ListN.{length, length-append}
 use Rattle.octets.specs.Bytes.{put}
 use Rattle.octets.proofs.Picks.{none-applies, not-none}
-use Rattle.record.specs.Form.{recordOf, partsOk, Parts}
+use Rattle.record.specs.Form.{outBytes, recordOf, partsOk, Parts}
 use Rattle.record.proofs.PartLaws.{known, kind-few, parts-fit}
-use Rattle.ground.specs.Answers.{sized}
+use Rattle.octets.specs.Answers.{sized}
 use Rattle.tumbeliko.specs.Records.{writeRefusal, written, writeBy, writeOf}
 
 module _ (kind : ℕ) (root path fragment out : List ℕ) where
@@ -22,13 +22,13 @@ module _ (kind : ℕ) (root path fragment out : List ℕ) where
   write-refused (suc q) some e = ap (λ (q : ℕ). writeBy q kind root path fragment out) e
 
   module _ (none : writeRefusal kind root path fragment out ≡ 0) where
-    write-room : 16619 ≤ length out
+    write-room : outBytes ≤ length out
     unfolding writeRefusal
-    write-room = ltb-false _ _ (none-applies (ltb (length out) 16619) 1 _ none .0)
+    write-room = ltb-false _ _ (none-applies (ltb (length out) outBytes) 1 _ none .0)
 
     pub write-parts : partsOk kind (length root) (length path) (length fragment) ≡ true
     unfolding writeRefusal
-    write-parts = not-none _ (none-applies _ 4 _ (none-applies (ltb (length out) 16619) 1 _ none .1) .0)
+    write-parts = not-none _ (none-applies _ 4 _ (none-applies (ltb (length out) outBytes) 1 _ none .1) .0)
 
     pub write-kind : kind ≤ 3
     write-kind = kind-few kind (known kind (length root) (length path) (length fragment) write-parts .kind-ok) .1

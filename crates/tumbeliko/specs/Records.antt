@@ -5,22 +5,22 @@ use Prim.Native.Nat.{ℕ, zero, suc, _/_}
 use lib.Dec.{ltb}
 use lib.ListN.{length}
 use Rattle.octets.specs.Bytes.{pick, put}
-use Rattle.record.specs.Form.{recordOf, partsOk}
+use Rattle.record.specs.Form.{outBytes, recordOf, partsOk}
 use Rattle.record.specs.declared.Read.{Read}
 use Rattle.record.specs.declared.Read.the-variants.{Form, Fault}
-use Rattle.ground.specs.Answers.{sized}
-use Rattle.ground.specs.declared.Sized.{Sized}
+use Rattle.octets.specs.Answers.{sized}
+use Rattle.octets.specs.declared.Sized.{Sized}
 use Rattle.tumbeliko.specs.declared.Parts.{Parts}
 
 -- the parts of a record, by what the reader found: the kind, the path's nodes, the fragment's bytes; every fault is 5
 unfoldable pub partsOf : Read → Parts
-partsOf (Form k p f) = record { number = 0; kind = k; nodes = p; length = f }
-partsOf (Fault why at) = record { number = 5; kind = 0; nodes = 0; length = 0 }
+partsOf (Form k p f) = record { number = 0; kind = k; nodes = p; «fragment_length» = f }
+partsOf (Fault why at) = record { number = 5; kind = 0; nodes = 0; «fragment_length» = 0 }
 
 -- the first refusal that applies, or 0: 2, "an outgoing record buffer 16,619"; 5, parts that no record has
 unfoldable pub writeRefusal : ℕ → List ℕ → List ℕ → List ℕ → List ℕ → ℕ
 writeRefusal kind root path fragment out =
-    pick (ltb (length out) 16619) 2
+    pick (ltb (length out) outBytes) 2
     (pick (not (partsOk kind (length root) (length path) (length fragment))) 5 0)
 
 -- the answer, and the outgoing buffer after the call

@@ -1,22 +1,20 @@
 // What C calls: every function of the library that firmware links, over the crates that do the work.
 // A slice is a pointer and then a length; every number may come in. include/tumbeliko.h says it for C.
-use boards::Table;
-use ground::Digest;
-use ground::Sized;
+use board_step::Stepped;
+use code_calls::Digest;
+use octets::Sized;
 use record::Read;
-use sending::Sent;
-use step::Stepped;
+use table::Table;
 ghost use mathlib.Core.Path.{_≡_};
-ghost use lib.ListN.{length};
 ghost use Rattle.record.specs.Form.{parse};
 ghost use Rattle.tree.specs.Check.{pathCorrect};
-ghost use Rattle.ground.specs.Hashing.{hashOf};
-ghost use Rattle.ground.specs.Encoding.{encoded, encodeOf};
-ghost use Rattle.ground.specs.Rebuilding.{Rebuilds};
-ghost use Rattle.ground.specs.Reading.{readOut, readOf};
+ghost use Rattle.code_calls.specs.Hashing.{hashOf};
+ghost use Rattle.code_calls.specs.Encoding.{encoded, encodeOf};
+ghost use Rattle.code_calls.specs.Rebuilding.{Rebuilds};
+ghost use Rattle.code_calls.specs.Reading.{readOut, readOf};
 ghost use Rattle.board.specs.Started.{begun, startOf};
-ghost use Rattle.sending.specs.Sent.{sendOut, sendOf};
-ghost use Rattle.step.specs.Step.{outcome, stepOf};
+ghost use Rattle.board_send.specs.Sent.{sendOut, sendOf};
+ghost use Rattle.board_step.specs.Step.{outcome, stepOf};
 ghost use Rattle.tumbeliko.specs.Tables.{tableFrom};
 ghost use Rattle.tumbeliko.specs.Records.{partsOf, writeRefusal, written, writeOf};
 
@@ -26,7 +24,7 @@ pub struct Parts {
     pub number: u32,
     pub kind: u32,
     pub nodes: u32,
-    pub length: u32,
+    pub fragment_length: u32,
 }
 
 // The four numbers as a table.
@@ -46,7 +44,7 @@ fn table(n: u32, t: u32, sender: u32, longest: u32) -> Table
 pub extern "C" fn tumbeliko_hash(string: &[u8]) -> Digest
     ensures { λ r. ⌜ r ≡ hashOf (now (string .entry)) ⌝ }
 {
-    ground::hash(string)
+    code_calls::hash(string)
 }
 
 // Whether the path is correct for the fragment of a board of n, under the root.
@@ -78,7 +76,7 @@ pub extern "C" fn tumbeliko_encode(
     ensures { λ r. ⌜ encoded r (now (area .exit)) (now (root .exit)) (now (paths .exit))
         ≡ encodeOf (tableFrom n t sender longest) (now (message .entry)) (now (area .entry)) (now (root .entry)) (now (paths .entry)) ⌝ }
 {
-    ground::encode(table(n, t, sender, longest), message, area, root, paths)
+    code_calls::encode(table(n, t, sender, longest), message, area, root, paths)
 }
 
 // The block whose fragments are all those marked; 1, 2, 4, 7, 10, 11.
@@ -95,7 +93,7 @@ pub extern "C" fn tumbeliko_rebuild(
 ) -> Sized
     ensures { λ r. ⌜ Rebuilds (tableFrom n t sender longest) marked (now (lengths .entry)) (now (area .entry)) (now (block .entry)) r (now (block .exit)) ⌝ }
 {
-    ground::rebuild(table(n, t, sender, longest), marked, lengths, area, block)
+    code_calls::rebuild(table(n, t, sender, longest), marked, lengths, area, block)
 }
 
 // The message that stands in a block; 1, 2, 12.
@@ -110,7 +108,7 @@ pub extern "C" fn tumbeliko_read_block(
 ) -> Sized
     ensures { λ r. ⌜ readOut r (now (message .exit)) ≡ readOf (tableFrom n t sender longest) (now (block .entry)) (now (message .entry)) ⌝ }
 {
-    ground::read_block(table(n, t, sender, longest), block, message)
+    code_calls::read_block(table(n, t, sender, longest), block, message)
 }
 
 // The parts of a record; 5.
@@ -123,13 +121,13 @@ pub extern "C" fn tumbeliko_read_record(record: &[u8]) -> Parts
             number: 0,
             kind: kind as u32,
             nodes: nodes as u32,
-            length: len as u32,
+            fragment_length: len as u32,
         },
         Read::Fault { why: _, at: _ } => Parts {
             number: 5,
             kind: 0,
             nodes: 0,
-            length: 0,
+            fragment_length: 0,
         },
     }
 }
@@ -138,7 +136,7 @@ pub extern "C" fn tumbeliko_read_record(record: &[u8]) -> Parts
 fn write_refusal(kind: u32, root: &[u8], path: &[u8], fragment: &[u8], out: &[u8]) -> u32
     ensures { λ r. ⌜ r ≡ writeRefusal kind (now (root .entry)) (now (path .entry)) (now (fragment .entry)) (now (out .entry)) ⌝ }
 {
-    if out.len() < 16619 {
+    if out.len() < record::OUT_BYTES {
         return 2;
     }
     if !record::parts_ok(kind, root.len(), path.len(), fragment.len()) {
@@ -200,7 +198,7 @@ pub extern "C" fn tumbeliko_step(
     ensures { λ r. ⌜ outcome r (now (state .exit)) (now (out .exit)) (now (delivery .exit))
         ≡ stepOf (now (state .entry)) from (now («record» .entry)) (now (out .entry)) (now (delivery .entry)) ⌝ }
 {
-    stepping::step(state, from as usize, record, out, delivery)
+    board_call::step(state, from as usize, record, out, delivery)
 }
 
 // The sender's record for one board; 1, 2, 4, 13.
@@ -213,8 +211,8 @@ pub extern "C" fn tumbeliko_send(
     message: &[u8],
     to: u32,
     out: &mut [u8],
-) -> Sent
+) -> Sized
     ensures { λ r. ⌜ sendOut r (now (out .exit)) ≡ sendOf (tableFrom n t sender longest) (now (message .entry)) to (now (out .entry)) ⌝ }
 {
-    sending::send(table(n, t, sender, longest), message, to as usize, out)
+    board_send::send(table(n, t, sender, longest), message, to as usize, out)
 }

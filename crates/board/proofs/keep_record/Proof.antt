@@ -67,7 +67,9 @@ same-length c = search needs
 
 returns : tie.Need-returns
 unfolding kept pick part
-returns c = let g : 39 + 32 * c .before .before .before .before .before .before .before .before .before .before .before .before .before .before .before .before .before .args .nodes + c .before .before .before .before .before .before .before .before .before .before .before .before .before .before .before .before .before .args .len - (39 + 32 * c .before .before .before .before .before .before .before .before .before .before .before .before .before .before .before .before .before .args .nodes) ≡ c .before .before .before .before .before .before .before .before .before .before .before .before .before .before .before .before .before .args .len = omega arith in rw (c .before .before .copy-at2 .ensures, c .before .before .before .before .before .before .before .put-two .ensures, c .before .before .before .before .before .before .before .before .before .before .before .copy-at .ensures, eq-eqb (c .before .before .before .before .before .before .before .before .before .before .before .before .before .before .before .before .before .args .kind) 2 (c .before .before .before .before .before .before .before .before .before .before .before .before .before .before .if1 .taken), g)
+returns c =
+    let a = c .before .before .before .before .before .before .before .before .before .before .before .before .before .before .before .before .before .args in let g : 39 + 32 * a .nodes + a .len - (39 + 32 * a .nodes) ≡ a .len = omega arith in
+    rw (c .before .before .copy-at2 .ensures, c .before .before .before .before .before .before .before .put-two .ensures, c .before .before .before .before .before .before .before .before .before .before .before .copy-at .ensures, eq-eqb (a .kind) 2 (c .before .before .before .before .before .before .before .before .before .before .before .before .before .before .if1 .taken), g)
 
 mul-copy-at-3 : tie.Need-mul-copy-at-3
 mul-copy-at-3 c = search needs
@@ -100,34 +102,7 @@ returns-3 c = rw (ne-eqb (c .before .before .before .before .args .kind) 2 (c .b
 
 pub keep-record-spec : {M : Type 1} → statement M
 keep-record-spec =
-    tie.close
-    (tie.spec
-    mul-copy-at
-    add-copy-at
-    sub-copy-at
-    part-copy-at-start
-    part-copy-at-end
-    copy-at-requires
-    mul-put-two
-    add-put-two
-    put-two-requires
-    mul-a
-    add-a
-    add-e
-    mul-copy-at-2
-    add-copy-at-2
-    sub-copy-at-2
-    part-copy-at-start-2
-    part-copy-at-end-2
-    copy-at-requires-2
-    same-length
-    returns
-    mul-copy-at-3
-    add-copy-at-3
-    sub-copy-at-3
-    part-copy-at-start-3
-    part-copy-at-end-3
-    copy-at-requires-3
-    same-length-2
-    returns-2
+    tie.close (tie.spec mul-copy-at add-copy-at sub-copy-at part-copy-at-start part-copy-at-end copy-at-requires mul-put-two add-put-two
+    put-two-requires mul-a add-a add-e mul-copy-at-2 add-copy-at-2 sub-copy-at-2 part-copy-at-start-2 part-copy-at-end-2 copy-at-requires-2
+    same-length returns mul-copy-at-3 add-copy-at-3 sub-copy-at-3 part-copy-at-start-3 part-copy-at-end-3 copy-at-requires-3 same-length-2 returns-2
     returns-3)

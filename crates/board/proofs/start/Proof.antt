@@ -28,7 +28,16 @@ state-size-requires c κs = sym (c .before .before .before .in-limits .ensures) 
 
 returns-3 : tie.Need-returns-3
 unfolding startOf pick
-returns-3 c = rw (← c .before .before .before .before .before .in-limits .ensures, not-false (c .before .before .before .before .before .in-limits .result) (c .before .before .before .before .if1 .left), ← c .before .before .before .is-board .ensures, not-false (c .before .before .before .is-board .result) (c .before .before .if2 .left), ← c .before .state-size .ensures, lt-ltb (length (c .before .before .before .before .before .before .before .args .state .now)) (c .before .state-size .result) (c .if3 .taken))
+returns-3 c =
+    let in-limits = c .before .before .before .before .before .in-limits in
+    rw (
+      ← in-limits .ensures,
+      not-false (in-limits .result) (c .before .before .before .before .if1 .left),
+      ← c .before .before .before .is-board .ensures,
+      not-false (c .before .before .before .is-board .result) (c .before .before .if2 .left),
+      ← c .before .state-size .ensures,
+      lt-ltb (length (c .before .before .before .before .before .before .before .args .state .now)) (c .before .state-size .result) (c .if3 .taken),
+    )
 
 write-fresh-requires : tie.Need-write-fresh-requires
 unfolding stateSize
@@ -39,18 +48,19 @@ same-length c = search needs
 
 returns-4 : tie.Need-returns-4
 unfolding startOf pick
-returns-4 c = rw (← c .before .before .before .before .before .before .before .before .before .in-limits .ensures, not-false (c .before .before .before .before .before .before .before .before .before .in-limits .result) (c .before .before .before .before .before .before .before .before .if1 .left), ← c .before .before .before .before .before .before .before .is-board .ensures, not-false (c .before .before .before .before .before .before .before .is-board .result) (c .before .before .before .before .before .before .if2 .left), ← c .before .before .before .before .before .state-size .ensures, le-ltb (length (c .before .before .before .before .before .before .before .before .before .before .before .args .state .now)) (c .before .before .before .before .before .state-size .result) (c .before .before .before .before .if3 .left), c .before .before .write-fresh .ensures)
+returns-4 c =
+    let in-limits = c .before .before .before .before .before .before .before .before .before .in-limits in let is-board = c .before .before .before .before .before .before .before .is-board in let state-size = c .before .before .before .before .before .state-size in
+    rw (
+      ← in-limits .ensures,
+      not-false (in-limits .result) (c .before .before .before .before .before .before .before .before .if1 .left),
+      ← is-board .ensures,
+      not-false (is-board .result) (c .before .before .before .before .before .before .if2 .left),
+      ← state-size .ensures,
+      le-ltb (length (c .before .before .before .before .before .before .before .before .before .before .before .args .state .now)) (state-size .result) (c .before .before .before .before .if3 .left),
+      c .before .before .write-fresh .ensures,
+    )
 
 pub start-spec : {M : Type 1} → statement M
 start-spec =
-    tie.close
-    (tie.spec
-    in-limits-requires
-    returns
-    is-board-requires
-    returns-2
-    state-size-requires
-    returns-3
-    write-fresh-requires
-    same-length
+    tie.close (tie.spec in-limits-requires returns is-board-requires returns-2 state-size-requires returns-3 write-fresh-requires same-length
     returns-4)

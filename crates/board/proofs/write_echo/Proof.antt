@@ -53,25 +53,11 @@ same-length c = search needs
 
 returns : tie.Need-returns
 unfolding part
-returns c = let g : 37 + 32 * c .before .before .before .before .before .before .before .before .before .args .nodes - 37 ≡ 32 * c .before .before .before .before .before .before .before .before .before .args .nodes = omega arith in let h : 37 + 32 * c .before .before .before .before .before .before .before .before .before .args .nodes + 2 ≡ 39 + 32 * c .before .before .before .before .before .before .before .before .before .args .nodes = omega arith in let l : 37 + 32 * c .before .before .before .before .before .before .before .before .before .args .nodes + 2 + c .before .before .before .before .before .before .before .before .before .args .len - (37 + 32 * c .before .before .before .before .before .before .before .before .before .args .nodes + 2) ≡ c .before .before .before .before .before .before .before .before .before .args .len = omega arith in rw (c .before .before .write-parts .ensures, l, g, h)
+returns c =
+    let a = c .before .before .before .before .before .before .before .before .before .args in let g : 37 + 32 * a .nodes - 37 ≡ 32 * a .nodes = omega arith in let h : 37 + 32 * a .nodes + 2 ≡ 39 + 32 * a .nodes = omega arith in let l : 37 + 32 * a .nodes + 2 + a .len - (37 + 32 * a .nodes + 2) ≡ a .len = omega arith in
+    rw (c .before .before .write-parts .ensures, l, g, h)
 
 pub write-echo-spec : {M : Type 1} → statement M
 write-echo-spec =
-    tie.close
-    (tie.spec
-    mul-a
-    add-a
-    add-c
-    add-e
-    sub-write-parts
-    part-write-parts-start
-    part-write-parts-end
-    sub-write-parts-2
-    part-write-parts-start-2
-    part-write-parts-end-2
-    sub-write-parts-3
-    part-write-parts-start-3
-    part-write-parts-end-3
-    write-parts-requires
-    same-length
-    returns)
+    tie.close (tie.spec mul-a add-a add-c add-e sub-write-parts part-write-parts-start part-write-parts-end sub-write-parts-2 part-write-parts-start-2
+    part-write-parts-end-2 sub-write-parts-3 part-write-parts-start-3 part-write-parts-end-3 write-parts-requires same-length returns)

@@ -1,8 +1,7 @@
 use lib.ListN.{length-set}
 use native.Mathlib.Omega.{arith}
 use Rattle.octets.proofs.Laws.{length-put}
-use Rattle.boards.proofs.Within.{within}
-use Rattle.state.proofs.Facts.{board-number}
+use Rattle.table.proofs.Within.{within, board-number}
 use Rattle.board.specs.Started.{freshBytes}
 use Rattle.board.proofs.Fresh.{fresh-written}
 use borrow.Author.Needs.{needs}
@@ -48,17 +47,5 @@ returns c = rw (c .before .before .clear-at .ensures, c .before .before .before 
 
 pub write-fresh-spec : {M : Type 1} → statement M
 write-fresh-spec =
-    tie.close
-    (tie.spec
-    cast-s
-    slice-write-s
-    cast-s-2
-    slice-write-s-2
-    cast-s-3
-    slice-write-s-3
-    cast-s-4
-    slice-write-s-4
-    put-two-requires
-    clear-at-requires
-    same-length
-    returns)
+    tie.close (tie.spec cast-s slice-write-s cast-s-2 slice-write-s-2 cast-s-3 slice-write-s-3 cast-s-4 slice-write-s-4 put-two-requires
+    clear-at-requires same-length returns)

@@ -42,17 +42,5 @@ returns c = c .before .before .write-parts .ensures
 
 pub write-vote-spec : {M : Type 1} → statement M
 write-vote-spec =
-    tie.close
-    (tie.spec
-    sub-write-parts
-    part-write-parts-start
-    part-write-parts-end
-    sub-write-parts-2
-    part-write-parts-start-2
-    part-write-parts-end-2
-    sub-write-parts-3
-    part-write-parts-start-3
-    part-write-parts-end-3
-    write-parts-requires
-    same-length
-    returns)
+    tie.close (tie.spec sub-write-parts part-write-parts-start part-write-parts-end sub-write-parts-2 part-write-parts-start-2 part-write-parts-end-2
+    sub-write-parts-3 part-write-parts-start-3 part-write-parts-end-3 write-parts-requires same-length returns)

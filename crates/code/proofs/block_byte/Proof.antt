@@ -48,14 +48,4 @@ returns-5 c =
 
 pub block-byte-spec : {M : Type 1} → statement M
 block-byte-spec =
-    tie.close
-    (tie.spec
-    returns
-    cast-result
-    returns-2
-    cast-result-2
-    returns-3
-    sub-at
-    shared-slice-read-result
-    returns-4
-    returns-5)
+    tie.close (tie.spec returns cast-result returns-2 cast-result-2 returns-3 sub-at shared-slice-read-result returns-4 returns-5)

@@ -46,13 +46,4 @@ returns-4 c = rw (← c .before .before .four-at .ensures .0, ← c .row-count .
 
 pub can-read-spec : {M : Type 1} → statement M
 can-read-spec =
-    tie.close
-    (tie.spec
-    returns
-    rem-if2
-    returns-2
-    four-at-requires
-    returns-3
-    row-count-requires
-    div-result
-    returns-4)
+    tie.close (tie.spec returns rem-if2 returns-2 four-at-requires returns-3 row-count-requires div-result returns-4)

@@ -1,6 +1,7 @@
 -- `drill::is_short` meets its contract.
 -- Assumes nothing.
 use borrow.Author.Tests.{lt-ltb, le-ltb}
+use Rattle.record.specs.Form.{outBytes}
 use Rattle.drill.proofs.is_short.Statement.{statement}
 use Rattle.drill.proofs.is_short.Tie as tie
 
@@ -14,16 +15,22 @@ returns-3 : tie.Need-returns-3
 returns-3 c = rw (le-ltb (c .before .before .before .args .message) 64 (c .before .before .if1 .left), le-ltb (c .before .before .before .args .states) 35588 (c .before .if2 .left), lt-ltb (c .before .before .before .args .kept) 14336 (c .if3 .taken))
 
 returns-4 : tie.Need-returns-4
-returns-4 c = rw (le-ltb (c .before .before .before .before .args .message) 64 (c .before .before .before .if1 .left), le-ltb (c .before .before .before .before .args .states) 35588 (c .before .before .if2 .left), le-ltb (c .before .before .before .before .args .kept) 14336 (c .before .if3 .left), lt-ltb (c .before .before .before .before .args .handed) 16619 (c .if4 .taken))
+returns-4 c = rw (le-ltb (c .before .before .before .before .args .message) 64 (c .before .before .before .if1 .left), le-ltb (c .before .before .before .before .args .states) 35588 (c .before .before .if2 .left), le-ltb (c .before .before .before .before .args .kept) 14336 (c .before .if3 .left), lt-ltb (c .before .before .before .before .args .handed) outBytes (c .if4 .taken))
 
 returns-5 : tie.Need-returns-5
-returns-5 c = rw (le-ltb (c .before .before .before .before .before .args .message) 64 (c .before .before .before .before .if1 .left), le-ltb (c .before .before .before .before .before .args .states) 35588 (c .before .before .before .if2 .left), le-ltb (c .before .before .before .before .before .args .kept) 14336 (c .before .before .if3 .left), le-ltb (c .before .before .before .before .before .args .handed) 16619 (c .before .if4 .left), lt-ltb (c .before .before .before .before .before .args .out) 16619 (c .if5 .taken))
+returns-5 c =
+    let a = c .before .before .before .before .before .args in
+    rw (le-ltb (a .message) 64 (c .before .before .before .before .if1 .left), le-ltb (a .states) 35588 (c .before .before .before .if2 .left), le-ltb (a .kept) 14336 (c .before .before .if3 .left), le-ltb (a .handed) outBytes (c .before .if4 .left), lt-ltb (a .out) outBytes (c .if5 .taken))
 
 returns-6 : tie.Need-returns-6
-returns-6 c = rw (le-ltb (c .before .before .before .before .before .before .args .message) 64 (c .before .before .before .before .before .if1 .left), le-ltb (c .before .before .before .before .before .before .args .states) 35588 (c .before .before .before .before .if2 .left), le-ltb (c .before .before .before .before .before .before .args .kept) 14336 (c .before .before .before .if3 .left), le-ltb (c .before .before .before .before .before .before .args .handed) 16619 (c .before .before .if4 .left), le-ltb (c .before .before .before .before .before .before .args .out) 16619 (c .before .if5 .left), lt-ltb (c .before .before .before .before .before .before .args .delivery) 64 (c .if6 .taken))
+returns-6 c =
+    let a = c .before .before .before .before .before .before .args in
+    rw (le-ltb (a .message) 64 (c .before .before .before .before .before .if1 .left), le-ltb (a .states) 35588 (c .before .before .before .before .if2 .left), le-ltb (a .kept) 14336 (c .before .before .before .if3 .left), le-ltb (a .handed) outBytes (c .before .before .if4 .left), le-ltb (a .out) outBytes (c .before .if5 .left), lt-ltb (a .delivery) 64 (c .if6 .taken))
 
 returns-7 : tie.Need-returns-7
-returns-7 c = rw (le-ltb (c .before .before .before .before .before .before .args .message) 64 (c .before .before .before .before .before .if1 .left), le-ltb (c .before .before .before .before .before .before .args .states) 35588 (c .before .before .before .before .if2 .left), le-ltb (c .before .before .before .before .before .before .args .kept) 14336 (c .before .before .before .if3 .left), le-ltb (c .before .before .before .before .before .before .args .handed) 16619 (c .before .before .if4 .left), le-ltb (c .before .before .before .before .before .before .args .out) 16619 (c .before .if5 .left), le-ltb (c .before .before .before .before .before .before .args .delivery) 64 (c .if6 .left))
+returns-7 c =
+    let a = c .before .before .before .before .before .before .args in
+    rw (le-ltb (a .message) 64 (c .before .before .before .before .before .if1 .left), le-ltb (a .states) 35588 (c .before .before .before .before .if2 .left), le-ltb (a .kept) 14336 (c .before .before .before .if3 .left), le-ltb (a .handed) outBytes (c .before .before .if4 .left), le-ltb (a .out) outBytes (c .before .if5 .left), le-ltb (a .delivery) 64 (c .if6 .left))
 
 pub is-short-spec : {M : Type 1} → statement M
 is-short-spec =

@@ -1,9 +1,9 @@
 -- `drill::run_step` meets its contract.
 -- Assumes nothing.
 use native.Mathlib.Omega.{arith}
-use Rattle.script.specs.Lines.{rightStep}
-use Rattle.words.proofs.Finding.{upto-part}
-use Rattle.opening.proofs.Nexts.{right-line}
+use Rattle.drill_lines.specs.Lines.{rightStep}
+use Rattle.drill_words.proofs.Finding.{upto-part}
+use Rattle.drill_open.proofs.Nexts.{right-line}
 use Rattle.drill.proofs.Nexts.{handing, step-made}
 use borrow.Author.Needs.{needs}
 use Rattle.drill.proofs.run_step.Statement.{statement}
@@ -22,7 +22,9 @@ part-run-end : tie.Need-part-run-end
 part-run-end c = search needs
 
 run-requires : tie.Need-run-requires
-run-requires c κs = (rw (← upto-part 10 (c .before .before .before .before .before .before .before .before .before .before .before .before .before .before .before .args .input .now) (c .before .before .before .before .before .before .before .before .before .before .before .before .before .before .before .args .at) (c .before .before .before .before .before .before .find .result) (c .before .before .before .before .before .before .find .ensures .0)) (handing (c .before .before .before .before .before .before .before .before .before .before .before .before .before .before .before .args .b) (c .before .before .before .before .before .before .before .before .before .before .before .before .before .before .before .args .x) (c .before .before .before .before .before .before .before .before .before .before .before .before .before .before .before .args .message .now) _ (c .before .before .before .before .before .before .before .before .before .before .before .before .before .before .before .args .kept .now) (c .before .before .before .before .before .before .before .before .before .before .before .before .before .before .before .pre .0) (right-line (rightStep (c .before .before .before .before .before .before .before .before .before .before .before .before .before .before .before .args .b) (c .before .before .before .before .before .before .before .before .before .before .before .before .before .before .before .args .x)) _ (c .before .before .before .before .before .before .before .before .before .before .before .before .before .before .before .pre .2)) (c .before .before .before .before .before .before .before .before .before .before .before .before .before .before .before .pre .3 .kept-long)), c .before .before .before .before .before .before .before .before .before .before .before .before .before .before .before .pre .3)
+run-requires c κs =
+    let s = c .before .before .before .before .before .before .before .before .before .before .before .before .before .before .before in let a = s .args in let p = s .pre in let find = c .before .before .before .before .before .before .find in
+    (rw (← upto-part 10 (a .input .now) (a .at) (find .result) (find .ensures .0)) (handing (a .b) (a .x) (a .message .now) _ (a .kept .now) (p .0) (right-line (rightStep (a .b) (a .x)) _ (p .2)) (p .3 .kept-long)), p .3)
 
 sub-put-line : tie.Need-sub-put-line
 sub-put-line c = search needs
@@ -34,7 +36,9 @@ part-put-line-end : tie.Need-part-put-line-end
 part-put-line-end c = search needs
 
 put-line-requires : tie.Need-put-line-requires
-put-line-requires c κs = (c .before .before .before .before .before .before .before .before .before .before .before .before .before .before .before .before .before .before .before .before .before .before .before .before .before .before .before .before .before .pre .4, c .before .before .before .before .before .before .before .before .before .before .before .before .before .run .ensures .2, omega (arith, c .before .before .before .before .before .before .before .before .before .before .before .before .before .run .ensures .2, c .before .before .before .before .before .before .before .before .before .before .before .before .before .run .kept .1 .1 .1 .1 .1 .1 .1 .0, c .before .before .before .before .before .before .before .before .before .before .before .before .before .before .before .before .before .before .before .before .before .before .before .before .before .before .before .before .before .pre .3 .delivery-long))
+put-line-requires c κs =
+    let p = c .before .before .before .before .before .before .before .before .before .before .before .before .before .before .before .before .before .before .before .before .before .before .before .before .before .before .before .before .before .pre in
+    let run = c .before .before .before .before .before .before .before .before .before .before .before .before .before .run in (p .4, run .ensures .2, omega (arith, run .ensures .2, run .kept .1 .1 .1 .1 .1 .1 .1 .0, p .3 .delivery-long))
 
 same-length : tie.Need-same-length
 same-length c = search needs
@@ -55,25 +59,13 @@ same-length-6 : tie.Need-same-length-6
 same-length-6 c = search needs
 
 returns : tie.Need-returns
-returns c = (rw (upto-part 10 (c .before .before .before .before .before .before .before .before .before .before .before .before .before .before .before .before .before .before .before .before .before .before .before .before .before .before .before .before .before .before .before .before .args .input .now) (c .before .before .before .before .before .before .before .before .before .before .before .before .before .before .before .before .before .before .before .before .before .before .before .before .before .before .before .before .before .before .before .before .args .at) (c .before .before .before .before .before .before .before .before .before .before .before .before .before .before .before .before .before .before .before .before .before .before .before .find .result) (c .before .before .before .before .before .before .before .before .before .before .before .before .before .before .before .before .before .before .before .before .before .before .before .find .ensures .0)) (step-made (c .before .before .before .before .before .before .before .before .before .before .before .before .before .before .before .before .before .before .before .before .before .before .before .before .before .before .before .before .before .before .before .before .args .b) (c .before .before .before .before .before .before .before .before .before .before .before .before .before .before .before .before .before .before .before .before .before .before .before .before .before .before .before .before .before .before .before .before .args .message .now) (c .before .before .before .before .before .before .before .before .before .before .before .before .before .before .before .before .before .before .before .before .before .before .before .before .before .before .before .before .before .before .before .before .args .k) _ _ _ (c .before .before .before .before .before .before .before .before .before .before .before .before .before .before .before .before .run .result) _ (c .before .before .before .before .before .before .before .before .before .before .before .before .before .before .before .before .before .before .before .before .before .before .before .before .before .before .before .before .before .before .before .before .args .p) (c .before .before .before .before .before .before .before .before .before .before .before .before .before .before .before .before .before .before .before .before .before .before .before .before .before .before .before .before .before .before .before .before .args .text .now) _ _ (c .before .before .before .before .before .before .before .before .before .before .before .before .before .before .before .before .run .ensures .0) (c .before .before .put-line .ensures .0)), c .before .before .put-line .ensures .1)
+returns c =
+    let a = c .before .before .before .before .before .before .before .before .before .before .before .before .before .before .before .before .before .before .before .before .before .before .before .before .before .before .before .before .before .before .before .before .args in
+    let find = c .before .before .before .before .before .before .before .before .before .before .before .before .before .before .before .before .before .before .before .before .before .before .before .find in
+    let run = c .before .before .before .before .before .before .before .before .before .before .before .before .before .before .before .before .run in
+    (rw (upto-part 10 (a .input .now) (a .at) (find .result) (find .ensures .0)) (step-made (a .b) (a .message .now) (a .k) _ _ _ (run .result) _ (a .p) (a .text .now) _ _ (run .ensures .0) (c .before .before .put-line .ensures .0)), c .before .before .put-line .ensures .1)
 
 pub run-step-spec : {M : Type 1} → statement M
 run-step-spec =
-    tie.close
-    (tie.spec
-    find-requires
-    sub-run
-    part-run-start
-    part-run-end
-    run-requires
-    sub-put-line
-    part-put-line-start
-    part-put-line-end
-    put-line-requires
-    same-length
-    same-length-2
-    same-length-3
-    same-length-4
-    same-length-5
-    same-length-6
-    returns)
+    tie.close (tie.spec find-requires sub-run part-run-start part-run-end run-requires sub-put-line part-put-line-start part-put-line-end
+    put-line-requires same-length same-length-2 same-length-3 same-length-4 same-length-5 same-length-6 returns)

@@ -55,19 +55,5 @@ returns c =
 
 pub inverse-spec : {M : Type 1} → statement M
 inverse-spec =
-    tie.close
-    (tie.spec
-    product-requires
-    product-requires-2
-    product-requires-3
-    product-requires-4
-    product-requires-5
-    product-requires-6
-    product-requires-7
-    product-requires-8
-    product-requires-9
-    product-requires-10
-    product-requires-11
-    product-requires-12
-    product-requires-13
-    returns)
+    tie.close (tie.spec product-requires product-requires-2 product-requires-3 product-requires-4 product-requires-5 product-requires-6
+    product-requires-7 product-requires-8 product-requires-9 product-requires-10 product-requires-11 product-requires-12 product-requires-13 returns)

@@ -40,14 +40,5 @@ returns c =
 
 pub product-spec : {M : Type 1} → statement M
 product-spec =
-    tie.close
-    (tie.spec
-    bit-step-requires
-    bit-step-requires-2
-    bit-step-requires-3
-    bit-step-requires-4
-    bit-step-requires-5
-    bit-step-requires-6
-    bit-step-requires-7
-    bit-step-requires-8
-    returns)
+    tie.close (tie.spec bit-step-requires bit-step-requires-2 bit-step-requires-3 bit-step-requires-4 bit-step-requires-5 bit-step-requires-6
+    bit-step-requires-7 bit-step-requires-8 returns)

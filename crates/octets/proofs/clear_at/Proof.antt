@@ -40,15 +40,4 @@ returns c = sym (clear-end _ _ _ _ (c .loop-test .left)) ∙ c .before .loop .in
 
 pub clear-at-spec : {M : Type 1} → statement M
 clear-at-spec =
-    tie.close
-    (tie.spec
-    Inv-loop
-    μ-loop
-    loop-holds
-    add-s
-    slice-write-s
-    add-i
-    loop-less
-    loop-again
-    same-length
-    returns)
+    tie.close (tie.spec Inv-loop μ-loop loop-holds add-s slice-write-s add-i loop-less loop-again same-length returns)

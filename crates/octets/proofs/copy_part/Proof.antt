@@ -62,17 +62,5 @@ returns c = sym (part-end _ _ _ _ _ _ (c .loop-test .left)) ∙ c .before .loop 
 
 pub copy-part-spec : {M : Type 1} → statement M
 copy-part-spec =
-    tie.close
-    (tie.spec
-    Inv-loop
-    μ-loop
-    loop-holds
-    add-dst
-    shared-slice-read-dst
-    add-dst-2
-    slice-write-dst
-    add-i
-    loop-less
-    loop-again
-    same-length
+    tie.close (tie.spec Inv-loop μ-loop loop-holds add-dst shared-slice-read-dst add-dst-2 slice-write-dst add-i loop-less loop-again same-length
     returns)

@@ -25,5 +25,4 @@ returns c = omega arith
 
 pub eight-at-spec : {M : Type 1} → statement M
 eight-at-spec =
-    tie.close
-    (tie.spec four-at-requires mul-result add-four-at four-at-requires-2 add-result returns)
+    tie.close (tie.spec four-at-requires mul-result add-four-at four-at-requires-2 add-result returns)

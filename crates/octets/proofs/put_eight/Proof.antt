@@ -18,7 +18,8 @@ same-length : tie.Need-same-length
 same-length c = search needs
 
 returns : tie.Need-returns
-returns c = rw (c .before .before .put-four2 .ensures, c .before .before .before .before .before .before .put-four .ensures) (put-put (four (c .before .before .before .before .before .before .before .before .before .args .x / 4294967296)) (four (c .before .before .before .before .before .before .before .before .before .args .x % 4294967296)) (c .before .before .before .before .before .before .before .before .before .args .s .now) (c .before .before .before .before .before .before .before .before .before .args .at))
+returns c =
+    let a = c .before .before .before .before .before .before .before .before .before .args in rw (c .before .before .put-four2 .ensures, c .before .before .before .before .before .before .put-four .ensures) (put-put (four (a .x / 4294967296)) (four (a .x % 4294967296)) (a .s .now) (a .at))
 
 pub put-eight-spec : {M : Type 1} → statement M
 put-eight-spec =

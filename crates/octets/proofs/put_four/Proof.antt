@@ -18,7 +18,8 @@ same-length : tie.Need-same-length
 same-length c = search needs
 
 returns : tie.Need-returns
-returns c = rw (c .before .before .put-two2 .ensures, c .before .before .before .before .before .before .put-two .ensures) (put-put (two (c .before .before .before .before .before .before .before .before .before .args .x / 65536)) (two (c .before .before .before .before .before .before .before .before .before .args .x % 65536)) (c .before .before .before .before .before .before .before .before .before .args .s .now) (c .before .before .before .before .before .before .before .before .before .args .at))
+returns c =
+    let a = c .before .before .before .before .before .before .before .before .before .args in rw (c .before .before .put-two2 .ensures, c .before .before .before .before .before .before .put-two .ensures) (put-put (two (a .x / 65536)) (two (a .x % 65536)) (a .s .now) (a .at))
 
 pub put-four-spec : {M : Type 1} → statement M
 put-four-spec =

@@ -45,17 +45,5 @@ returns-2 c = sym (same-end _ _ _ _ _ (omega arith)) ∙ c .before .loop .inv .1
 
 pub same-at-spec : {M : Type 1} → statement M
 same-at-spec =
-    tie.close
-    (tie.spec
-    Inv-loop
-    μ-loop
-    loop-holds
-    add-if1
-    shared-slice-read-if1
-    add-if1-2
-    shared-slice-read-if1-2
-    returns
-    add-i
-    loop-less
-    loop-again
+    tie.close (tie.spec Inv-loop μ-loop loop-holds add-if1 shared-slice-read-if1 add-if1-2 shared-slice-read-if1-2 returns add-i loop-less loop-again
     returns-2)

@@ -36,13 +36,4 @@ returns-6 c = rw (← c .before .before .most-nodes .ensures .0, ← c .fragment
 
 pub parts-ok-spec : {M : Type 1} → statement M
 parts-ok-spec =
-    tie.close
-    (tie.spec
-    returns
-    returns-2
-    returns-3
-    returns-4
-    most-nodes-requires
-    returns-5
-    fragment-ok-requires
-    returns-6)
+    tie.close (tie.spec returns returns-2 returns-3 returns-4 most-nodes-requires returns-5 fragment-ok-requires returns-6)

@@ -56,20 +56,5 @@ returns-5 c = rw (← c .before .before .before .before .two-at .ensures .0, ←
 
 pub read-fragment-spec : {M : Type 1} → statement M
 read-fragment-spec =
-    tie.close
-    (tie.spec
-    add-if1
-    returns
-    two-at-requires
-    fragment-ok-requires
-    returns-2
-    add-if3
-    add-if3-2
-    add-t12
-    returns-3
-    add-if4
-    add-if4-2
-    add-t13
-    add-t14
-    returns-4
-    returns-5)
+    tie.close (tie.spec add-if1 returns two-at-requires fragment-ok-requires returns-2 add-if3 add-if3-2 add-t12 returns-3 add-if4 add-if4-2 add-t13
+    add-t14 returns-4 returns-5)

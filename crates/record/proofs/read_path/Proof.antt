@@ -38,14 +38,4 @@ returns-4 c = rw (← c .before .before .before .before .two-at .ensures .0, ←
 
 pub read-path-spec : {M : Type 1} → statement M
 read-path-spec =
-    tie.close
-    (tie.spec
-    returns
-    two-at-requires
-    most-nodes-requires
-    returns-2
-    mul-at
-    add-at
-    returns-3
-    read-fragment-requires
-    returns-4)
+    tie.close (tie.spec returns two-at-requires most-nodes-requires returns-2 mul-at add-at returns-3 read-fragment-requires returns-4)

@@ -40,15 +40,5 @@ returns-6 c = parse-high (c .before .before .before .before .args .s .now) (omeg
 
 pub read-record-spec : {M : Type 1} → statement M
 read-record-spec =
-    tie.close
-    (tie.spec
-    returns
-    shared-slice-read-kind
-    read-root-requires
-    read-root-requires-2
-    read-root-requires-3
-    returns-2
-    returns-3
-    returns-4
-    returns-5
-    returns-6)
+    tie.close (tie.spec returns shared-slice-read-kind read-root-requires read-root-requires-2 read-root-requires-3 returns-2 returns-3 returns-4
+    returns-5 returns-6)

@@ -40,29 +40,34 @@ add-copy-at : tie.Need-add-copy-at
 add-copy-at c = search needs
 
 copy-at-requires-3 : tie.Need-copy-at-requires-3
-copy-at-requires-3 c κs = rw (c .before .before .before .put-two2 .ensures, c .before .before .before .before .before .before .before .copy-at2 .ensures, c .before .before .before .before .before .before .before .before .before .before .before .put-two .ensures, c .before .before .before .before .before .before .before .before .before .before .before .before .before .before .before .copy-at .ensures) (simp (length-put, length-set) (omega arith))
+copy-at-requires-3 c κs =
+    rw (c .before .before .before .put-two2 .ensures, c .before .before .before .before .before .before .before .copy-at2 .ensures, c .before .before .before .before .before .before .before .before .before .before .before .put-two .ensures, c .before .before .before .before .before .before .before .before .before .before .before .before .before .before .before .copy-at .ensures)
+    (simp (length-put, length-set) (omega arith))
 
 same-length : tie.Need-same-length
-same-length c = rw (c .before .before .copy-at3 .ensures, c .before .before .before .before .before .before .put-two2 .ensures, c .before .before .before .before .before .before .before .before .before .before .copy-at2 .ensures, c .before .before .before .before .before .before .before .before .before .before .before .before .before .before .put-two .ensures, c .before .before .before .before .before .before .before .before .before .before .before .before .before .before .before .before .before .before .copy-at .ensures) (simp (length-put, length-set))
+same-length c =
+    rw (
+      c .before .before .copy-at3 .ensures,
+      c .before .before .before .before .before .before .put-two2 .ensures,
+      c .before .before .before .before .before .before .before .before .before .before .copy-at2 .ensures,
+      c .before .before .before .before .before .before .before .before .before .before .before .before .before .before .put-two .ensures,
+      c .before .before .before .before .before .before .before .before .before .before .before .before .before .before .before .before .before .before .copy-at .ensures,
+    )
+    (simp (length-put, length-set))
 
 returns : tie.Need-returns
-returns c = rw (c .before .before .copy-at3 .ensures, c .before .before .before .before .before .before .put-two2 .ensures, c .before .before .before .before .before .before .before .before .before .before .copy-at2 .ensures, c .before .before .before .before .before .before .before .before .before .before .before .before .before .before .put-two .ensures, c .before .before .before .before .before .before .before .before .before .before .before .before .before .before .before .before .before .before .copy-at .ensures) (written _ _ _ _ _ _ (c .before .before .before .before .before .before .before .before .before .before .before .before .before .before .before .before .before .before .before .before .before .before .before .before .pre .root-len) (c .before .before .before .before .before .before .before .before .before .before .before .before .before .before .before .before .before .before .before .before .before .before .before .before .pre .path-len))
+returns c =
+    let p = c .before .before .before .before .before .before .before .before .before .before .before .before .before .before .before .before .before .before .before .before .before .before .before .before .pre in
+    rw (
+      c .before .before .copy-at3 .ensures,
+      c .before .before .before .before .before .before .put-two2 .ensures,
+      c .before .before .before .before .before .before .before .before .before .before .copy-at2 .ensures,
+      c .before .before .before .before .before .before .before .before .before .before .before .before .before .before .put-two .ensures,
+      c .before .before .before .before .before .before .before .before .before .before .before .before .before .before .before .before .before .before .copy-at .ensures,
+    )
+    (written _ _ _ _ _ _ (p .root-len) (p .path-len))
 
 pub write-parts-spec : {M : Type 1} → statement M
 write-parts-spec =
-    tie.close
-    (tie.spec
-    slice-write-out
-    slice-write-out-2
-    slice-write-out-3
-    copy-at-requires
-    put-two-requires
-    copy-at-requires-2
-    mul-put-two
-    add-put-two
-    put-two-requires-2
-    mul-copy-at
-    add-copy-at
-    copy-at-requires-3
-    same-length
-    returns)
+    tie.close (tie.spec slice-write-out slice-write-out-2 slice-write-out-3 copy-at-requires put-two-requires copy-at-requires-2 mul-put-two
+    add-put-two put-two-requires-2 mul-copy-at add-copy-at copy-at-requires-3 same-length returns)

@@ -45,5 +45,4 @@ returns-8 c =
 
 pub constants-spec : {M : Type 1} → statement M
 constants-spec =
-    tie.close
-    (tie.spec returns returns-2 returns-3 returns-4 returns-5 returns-6 returns-7 returns-8)
+    tie.close (tie.spec returns returns-2 returns-3 returns-4 returns-5 returns-6 returns-7 returns-8)

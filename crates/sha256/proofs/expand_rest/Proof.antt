@@ -86,27 +86,6 @@ returns c =
 
 pub expand-rest-spec : {M : Type 1} → statement M
 expand-rest-spec =
-    tie.close
-    (tie.spec
-    Inv-loop
-    μ-loop
-    loop-holds
-    sub-expanded
-    mul-expanded
-    element-copy-out-expanded
-    sub-expanded-2
-    mul-expanded-2
-    element-copy-out-expanded-2
-    sub-expanded-3
-    mul-expanded-3
-    element-copy-out-expanded-3
-    sub-expanded-4
-    mul-expanded-4
-    element-copy-out-expanded-4
-    expanded-requires
-    mul-w
-    element-write-w
-    add-t
-    loop-less
-    loop-again
-    returns)
+    tie.close (tie.spec Inv-loop μ-loop loop-holds sub-expanded mul-expanded element-copy-out-expanded sub-expanded-2 mul-expanded-2
+    element-copy-out-expanded-2 sub-expanded-3 mul-expanded-3 element-copy-out-expanded-3 sub-expanded-4 mul-expanded-4 element-copy-out-expanded-4
+    expanded-requires mul-w element-write-w add-t loop-less loop-again returns)

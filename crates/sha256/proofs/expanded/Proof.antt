@@ -26,11 +26,4 @@ returns c = cc
 
 pub expanded-spec : {M : Type 1} → statement M
 expanded-spec =
-    tie.close
-    (tie.spec
-    small1-requires
-    wrapping-add-u32-requires
-    small0-requires
-    wrapping-add-u32-requires-2
-    wrapping-add-u32-requires-3
-    returns)
+    tie.close (tie.spec small1-requires wrapping-add-u32-requires small0-requires wrapping-add-u32-requires-2 wrapping-add-u32-requires-3 returns)

@@ -29,12 +29,5 @@ returns c = cc
 
 pub first-spec : {M : Type 1} → statement M
 first-spec =
-    tie.close
-    (tie.spec
-    big1-requires
-    wrapping-add-u32-requires
-    choice-requires
-    wrapping-add-u32-requires-2
-    wrapping-add-u32-requires-3
-    wrapping-add-u32-requires-4
-    returns)
+    tie.close (tie.spec big1-requires wrapping-add-u32-requires choice-requires wrapping-add-u32-requires-2 wrapping-add-u32-requires-3
+    wrapping-add-u32-requires-4 returns)

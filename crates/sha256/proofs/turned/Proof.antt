@@ -63,24 +63,6 @@ returns c = made-round _ _ _ _ _ _ _ (c .before .before .before .first .ensures)
 
 pub turned-spec : {M : Type 1} → statement M
 turned-spec =
-    tie.close
-    (tie.spec
-    array-read-first
-    array-read-first-2
-    array-read-first-3
-    array-read-first-4
-    first-requires
-    array-read-second
-    array-read-second-2
-    array-read-second-3
-    second-requires
-    wrapping-add-u32-requires
-    array-read-wrapping-add-u32
-    wrapping-add-u32-requires-2
-    array-read-t17
-    array-read-t14
-    array-read-t20
-    array-read-t11
-    array-read-t39
-    array-read-t42
-    returns)
+    tie.close (tie.spec array-read-first array-read-first-2 array-read-first-3 array-read-first-4 first-requires array-read-second array-read-second-2
+    array-read-second-3 second-requires wrapping-add-u32-requires array-read-wrapping-add-u32 wrapping-add-u32-requires-2 array-read-t17
+    array-read-t14 array-read-t20 array-read-t11 array-read-t39 array-read-t42 returns)

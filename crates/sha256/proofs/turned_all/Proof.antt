@@ -39,5 +39,4 @@ returns c = let a = c .before .before .args in
 
 pub turned-all-spec : {M : Type 1} → statement M
 turned-all-spec =
-    tie.close
-    (tie.spec Inv-loop μ-loop loop-holds turned-eight-requires add-q loop-less loop-again returns)
+    tie.close (tie.spec Inv-loop μ-loop loop-holds turned-eight-requires add-q loop-less loop-again returns)

@@ -3,11 +3,11 @@ use borrow.Author.Needs.{needs}
 use Rattle.state.proofs.names.Statement.{statement}
 use Rattle.state.proofs.names.Tie as tie
 
-member-requires : tie.Need-member-requires
-member-requires c κs = search needs
+has-board-requires : tie.Need-has-board-requires
+has-board-requires c κs = search needs
 
 returns : tie.Need-returns
-returns c = rw (← c .before .member .ensures) (search picks)
+returns c = rw (← c .before .has-board .ensures) (search picks)
 
 mul-same-at : tie.Need-mul-same-at
 mul-same-at c = search needs
@@ -19,8 +19,8 @@ same-at-requires : tie.Need-same-at-requires
 same-at-requires c κs = search needs
 
 returns-2 : tie.Need-returns-2
-returns-2 c = rw (← c .before .before .member .ensures, ← c .same-at .ensures) (search picks)
+returns-2 c = rw (← c .before .before .has-board .ensures, ← c .same-at .ensures) (search picks)
 
 pub names-spec : {M : Type 1} → statement M
 names-spec =
-    tie.close (tie.spec member-requires returns mul-same-at add-same-at same-at-requires returns-2)
+    tie.close (tie.spec has-board-requires returns mul-same-at add-same-at same-at-requires returns-2)

@@ -50,16 +50,4 @@ returns c = c .before .loop .inv .1 ∙ whole (setOf _) _ _ (c .loop-test .left)
 
 pub naming-set-spec : {M : Type 1} → statement M
 naming-set-spec =
-    tie.close
-    (tie.spec
-    Inv-loop
-    μ-loop
-    loop-holds
-    sub-i
-    mul-found
-    names-requires
-    set-bit-requires
-    add-found
-    loop-less
-    loop-again
-    returns)
+    tie.close (tie.spec Inv-loop μ-loop loop-holds sub-i mul-found names-requires set-bit-requires add-found loop-less loop-again returns)

@@ -30,13 +30,5 @@ returns c = cc
 
 pub read-marks-spec : {M : Type 1} → statement M
 read-marks-spec =
-    tie.close
-    (tie.spec
-    shared-slice-read-t3
-    shared-slice-read-t6
-    shared-slice-read-t9
-    shared-slice-read-t12
-    eight-at-requires
-    eight-at-requires-2
-    eight-at-requires-3
-    returns)
+    tie.close (tie.spec shared-slice-read-t3 shared-slice-read-t6 shared-slice-read-t9 shared-slice-read-t12 eight-at-requires eight-at-requires-2
+    eight-at-requires-3 returns)

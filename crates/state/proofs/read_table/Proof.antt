@@ -30,13 +30,5 @@ returns c = cc
 
 pub read-table-spec : {M : Type 1} → statement M
 read-table-spec =
-    tie.close
-    (tie.spec
-    shared-slice-read-wide
-    wide-requires
-    shared-slice-read-wide-2
-    wide-requires-2
-    shared-slice-read-wide-3
-    wide-requires-3
-    two-at-requires
-    returns)
+    tie.close (tie.spec shared-slice-read-wide wide-requires shared-slice-read-wide-2 wide-requires-2 shared-slice-read-wide-3 wide-requires-3
+    two-at-requires returns)

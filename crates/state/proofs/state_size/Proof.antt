@@ -1,5 +1,5 @@
 use native.Mathlib.Omega.{arith}
-use Rattle.boards.proofs.Within.{within, room-le}
+use Rattle.table.proofs.Within.{within, room-le}
 use Rattle.state.specs.State.{stateSize}
 use borrow.Author.Needs.{needs}
 use Rattle.state.proofs.state_size.Statement.{statement}

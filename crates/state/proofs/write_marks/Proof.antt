@@ -45,22 +45,18 @@ same-length c = rw (c .before .before .put-eight3 .ensures, c .before .before .b
 
 returns : tie.Need-returns
 unfolding put marksBytes
-returns c = rw (c .before .before .put-eight3 .ensures, c .before .before .before .before .before .before .put-eight2 .ensures, c .before .before .before .before .before .before .before .before .before .before .put-eight .ensures, c .before .before .before .before .before .before .before .before .before .before .before .before .before .before .before .flag-byte .ensures, c .before .before .before .before .before .before .before .before .before .before .before .before .before .before .flag-byte2 .ensures, c .before .before .before .before .before .before .before .before .before .before .before .before .before .flag-byte3 .ensures, c .before .before .before .before .before .before .before .before .before .before .before .before .flag-byte4 .ensures)
+returns c =
+    rw (
+      c .before .before .put-eight3 .ensures,
+      c .before .before .before .before .before .before .put-eight2 .ensures,
+      c .before .before .before .before .before .before .before .before .before .before .put-eight .ensures,
+      c .before .before .before .before .before .before .before .before .before .before .before .before .before .before .before .flag-byte .ensures,
+      c .before .before .before .before .before .before .before .before .before .before .before .before .before .before .flag-byte2 .ensures,
+      c .before .before .before .before .before .before .before .before .before .before .before .before .before .flag-byte3 .ensures,
+      c .before .before .before .before .before .before .before .before .before .before .before .before .flag-byte4 .ensures,
+    )
 
 pub write-marks-spec : {M : Type 1} → statement M
 write-marks-spec =
-    tie.close
-    (tie.spec
-    flag-byte-requires
-    slice-write-s
-    flag-byte-requires-2
-    slice-write-s-2
-    flag-byte-requires-3
-    slice-write-s-3
-    flag-byte-requires-4
-    slice-write-s-4
-    put-eight-requires
-    put-eight-requires-2
-    put-eight-requires-3
-    same-length
-    returns)
+    tie.close (tie.spec flag-byte-requires slice-write-s flag-byte-requires-2 slice-write-s-2 flag-byte-requires-3 slice-write-s-3
+    flag-byte-requires-4 slice-write-s-4 put-eight-requires put-eight-requires-2 put-eight-requires-3 same-length returns)

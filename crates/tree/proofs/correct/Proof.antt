@@ -94,24 +94,6 @@ returns-8 c = let a = c .before .before .before .before .before .before .before 
 
 pub correct-spec : {M : Type 1} → statement M
 correct-spec =
-    tie.close
-    (tie.spec
-    returns
-    returns-2
-    returns-3
-    returns-4
-    returns-5
-    returns-6
-    nodes-requires
-    mul-if7
-    returns-7
-    begun-requires
-    slice-aggregate-take-all
-    take-all-requires
-    slice-aggregate-rise-up
-    rise-up-requires
-    slice-aggregate-put-digest
-    put-digest-requires
-    slice-aggregate-same-at
-    same-at-requires
-    returns-8)
+    tie.close (tie.spec returns returns-2 returns-3 returns-4 returns-5 returns-6 nodes-requires mul-if7 returns-7 begun-requires
+    slice-aggregate-take-all take-all-requires slice-aggregate-rise-up rise-up-requires slice-aggregate-put-digest put-digest-requires
+    slice-aggregate-same-at same-at-requires returns-8)

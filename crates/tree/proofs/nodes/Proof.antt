@@ -47,14 +47,4 @@ returns c = let a = c .before .before .args in
 
 pub nodes-spec : {M : Type 1} → statement M
 nodes-spec =
-    tie.close
-    (tie.spec
-    Inv-loop
-    μ-loop
-    loop-holds
-    middle-of-requires
-    add-count
-    add-e
-    loop-less
-    loop-again
-    returns)
+    tie.close (tie.spec Inv-loop μ-loop loop-holds middle-of-requires add-count add-e loop-less loop-again returns)

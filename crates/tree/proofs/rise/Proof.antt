@@ -55,15 +55,5 @@ returns-2 c = let a = c .before .before .before .before .before .before .before 
 
 pub rise-spec : {M : Type 1} → statement M
 rise-spec =
-    tie.close
-    (tie.spec
-    middle-of-requires
-    returns
-    side-requires
-    mul-set-pair
-    set-pair-requires
-    slice-aggregate-take-all
-    take-all-requires
-    add-result
-    same-length
-    returns-2)
+    tie.close (tie.spec middle-of-requires returns side-requires mul-set-pair set-pair-requires slice-aggregate-take-all take-all-requires add-result
+    same-length returns-2)

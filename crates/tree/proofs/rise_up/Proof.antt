@@ -53,14 +53,4 @@ returns c = let l = c .before .loop in
 
 pub rise-up-spec : {M : Type 1} → statement M
 rise-up-spec =
-    tie.close
-    (tie.spec
-    Inv-loop
-    μ-loop
-    loop-holds
-    rise-requires
-    add-d
-    loop-less
-    loop-again
-    same-length
-    returns)
+    tie.close (tie.spec Inv-loop μ-loop loop-holds rise-requires add-d loop-less loop-again same-length returns)

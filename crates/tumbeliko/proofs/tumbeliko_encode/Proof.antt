@@ -22,5 +22,4 @@ returns c = rw (c .before .before .before .before .before .before .before .befor
 
 pub tumbeliko-encode-spec : {M : Type 1} → statement M
 tumbeliko-encode-spec =
-    tie.close
-    (tie.spec table-requires encode-requires same-length same-length-2 same-length-3 returns)
+    tie.close (tie.spec table-requires encode-requires same-length same-length-2 same-length-3 returns)

@@ -35,13 +35,4 @@ returns-2 c = rw (← c .before .before .read-record .ensures, c .enum-told .giv
 
 pub tumbeliko-read-record-spec : {M : Type 1} → statement M
 tumbeliko-read-record-spec =
-    tie.close
-    (tie.spec
-    read-record-requires
-    enum-known-kind
-    cast-t7
-    cast-t8
-    cast-t9
-    enum-told
-    returns
-    returns-2)
+    tie.close (tie.spec read-record-requires enum-known-kind cast-t7 cast-t8 cast-t9 enum-told returns returns-2)

@@ -38,15 +38,5 @@ returns-2 c = write-made _ _ _ _ _ (sym (c .before .before .before .before .befo
 
 pub tumbeliko-write-record-spec : {M : Type 1} → statement M
 tumbeliko-write-record-spec =
-    tie.close
-    (tie.spec
-    write-refusal-requires
-    same-length
-    returns
-    cast-write-parts
-    write-parts-requires
-    add-t16
-    add-t18
-    cast-t19
-    same-length-2
+    tie.close (tie.spec write-refusal-requires same-length returns cast-write-parts write-parts-requires add-t16 add-t18 cast-t19 same-length-2
     returns-2)

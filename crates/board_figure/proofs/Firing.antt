@@ -1,0 +1,152 @@
+-- Only the root just named can enable a branch, so the branches that fire after a message are determined: their order cannot matter.
+use mathlib.Core.Path.{_≡_, refl, sym, subst, ap, ap₂, _∙_}
+use Prim.Native.Nat.{ℕ, _≤_}
+use mathlib.Core.List.{List, [], _∷_, _++_, append-nil}
+use mathlib.Core.Bool.{Bool, true, false}
+use mathlib.Core.Option.{Option, none, some}
+use native.Mathlib.Omega.{arith}
+use lib.Count.{ones}
+use Rattle.octets.specs.Bytes.{pick, same}
+use Rattle.octets.proofs.Sames.{same-equal}
+use Rattle.table.specs.Table.{mostOf, someOf}
+use Rattle.table.specs.declared.Table.{Table}
+use Rattle.table.proofs.Within.{Within}
+use Rattle.board_figure.specs.Figure.{Piece, echo, vote, Event, sends, outputs, Figure, correct, receive, echoing, voting, At, turned, acquire, outcomeFor, Branch, acquires, votes-by-echoes, votes-by-votes, opens, delivers, Still, Fires, rests, goes}
+use Rattle.octets.proofs.Picks.{never}
+use Rattle.board_figure.proofs.Counts.{clash, echo-else, vote-else, one-root}
+
+absent : {X Y : Type 0} (o : Option X) (v : X) → o ≡ none → o ≡ some v → Y
+absent o v e f = absurd (let z : _≡_ {A = ℕ} 0 1 = cc in omega arith)
+
+module _ (b : Table) (own : ℕ) where
+  -- no send waits, and only one root can bring a vote
+  pub record Only (root : List ℕ) (x : Figure) : Type 0 where
+    pub no-send : x .sent ≡ none
+    pub by-echoes : (r : List ℕ) → x .output ≡ false → x .voted ≡ false → mostOf b ≤ ones (echoing b x r) → r ≡ root
+    pub by-votes : (r : List ℕ) → x .output ≡ false → x .voted ≡ false → someOf b ≤ ones (voting b x r) → r ≡ root
+
+  -- then a branch is one of three, by where the party stands
+  data Turn (root : List ℕ) (x : Figure) : List Event → Figure → Type 0 where
+    votes : x .output ≡ false → x .voted ≡ false → Turn root x (sends (vote root) ∷ []) (turned x true (x .output) (x .done))
+    opening : x .output ≡ false → x .voted ≡ true → Turn root x [] (turned x (x .voted) true (x .done))
+    ending : (r : List ℕ) → x .output ≡ true → mostOf b ≤ ones (voting b x r) → Turn root x (outputs (outcomeFor b x r) ∷ []) (turned x (x .voted) (x .output) true)
+
+  voting-for : (root r : List ℕ) (x : Figure) → r ≡ root → x .output ≡ false → x .voted ≡ false
+      → Turn root x (sends (vote r) ∷ []) (turned x true (x .output) (x .done))
+  voting-for root r x e o v = rw e (votes o v)
+
+  turn : (root : List ℕ) (x : Figure) → Only root x → (es : List Event) (y : Figure) → Branch b own x es y → Turn root x es y
+  turn root x o es y (acquires p a q s) = absent (x .sent) p (o .no-send) s
+  turn root x o es y (votes-by-echoes r a v h) = voting-for root r x (o .by-echoes r (a .place) v h) (a .place) v
+  turn root x o es y (votes-by-votes r a v h) = voting-for root r x (o .by-votes r (a .place) v h) (a .place) v
+  turn root x o es y (opens r a v h) = opening (a .place) v
+  turn root x o es y (delivers r a h k) = ending r (a .place) h
+
+  turn-one : Within b → (root : List ℕ) (x : Figure) (es fs : List Event) (y z : Figure) → Turn root x es y → Turn root x fs z → (es ≡ fs) × (y ≡ z)
+  turn-one w root x es fs y z (votes o v) (votes p u) = (refl, refl)
+  turn-one w root x es fs y z (votes o v) (opening p u) = clash (x .voted) u v
+  turn-one w root x es fs y z (votes o v) (ending r p h) = clash (x .output) p o
+  turn-one w root x es fs y z (opening o v) (votes p u) = clash (x .voted) v u
+  turn-one w root x es fs y z (opening o v) (opening p u) = (refl, refl)
+  turn-one w root x es fs y z (opening o v) (ending r p h) = clash (x .output) p o
+  turn-one w root x es fs y z (ending q o g) (votes p u) = clash (x .output) o p
+  turn-one w root x es fs y z (ending q o g) (opening p u) = clash (x .output) o p
+  turn-one w root x es fs y z (ending q o g) (ending r p h) = (ap (λ (v : List ℕ). outputs (outcomeFor b x v) ∷ []) (one-root b w x q r g h), refl)
+
+  -- a branch leaves no other root to bring a vote
+  only-still : (root : List ℕ) (x : Figure) → Only root x → (es : List Event) (y : Figure) → Turn root x es y → Only root y
+  only-still root x o es y (votes p v) = record { no-send = o .no-send; by-echoes = λ r a c h. never (sym c); by-votes = λ r a c h. never (sym c) }
+  only-still root x o es y (opening p v) = record { no-send = o .no-send; by-echoes = λ r a c h. never (sym a); by-votes = λ r a c h. never (sym a) }
+  only-still root x o es y (ending q p g) = record { no-send = o .no-send; by-echoes = λ r a c h. clash (x .output) p a; by-votes = λ r a c h. clash (x .output) p a }
+
+  -- so all firing from there sends and outputs the same and ends at the same
+  pub fires-one : Within b → (root : List ℕ) (x : Figure) → Only root x → (es fs : List Event) (y z : Figure)
+      → Fires b own x es y → Fires b own x fs z → (es ≡ fs) × (y ≡ z)
+  fires-one w root x o es fs y z (rests st) (rests su) = (refl, refl)
+  fires-one w root x o es fs y z (rests st) (goes br f) = absurd (st _ _ br)
+  fires-one w root x o es fs y z (goes br f) (rests st) = absurd (st _ _ br)
+  fires-one w root x o es fs y z (goes {y = u} {es = ds} {fs = gs} br f) (goes {y = v} {es = cs} {fs = hs} bq g) =
+      let t = turn root x o ds u br in
+      let (e, q) = turn-one w root x ds cs u v t (turn root x o cs v bq) in
+      let g′ : Fires b own u hs z = subst (λ (i : Figure). Fires b own i hs z) (sym q) g in
+      let (c, d) = fires-one w root u (only-still root x o ds u t) gs hs y z f g′ in
+      (ap₂ _++_ e c, d)
+
+  -- ---- after an echo or a vote
+
+  module _ (i : ℕ) (x : Figure) (still : Still b own x) (none-sent : x .sent ≡ none) (going : x .done ≡ false) where
+    no-echoes : (r : List ℕ) → x .output ≡ false → x .voted ≡ false → mostOf b ≤ ones (echoing b x r) → ⊥
+    no-echoes r o v h = still _ _ (votes-by-echoes r (record { going = going; place = o }) v h)
+
+    no-votes : (r : List ℕ) → x .output ≡ false → x .voted ≡ false → someOf b ≤ ones (voting b x r) → ⊥
+    no-votes r o v h = still _ _ (votes-by-votes r (record { going = going; place = o }) v h)
+
+    pub only-echo : (p : Piece) → Only (p .root) (receive b i (echo p) x)
+    unfolding receive
+    only-echo p = record { no-send = none-sent; by-echoes = λ r o v h. go r o v h (same (p .root) r) refl; by-votes = λ r o v h. absurd (no-votes r o v h) }
+      where
+        go : (r : List ℕ) → x .output ≡ false → x .voted ≡ false → mostOf b ≤ ones (echoing b (receive b i (echo p) x) r)
+            → (c : Bool) → same (p .root) r ≡ c → r ≡ p .root
+        go r o v h true e = sym (same-equal (p .root) r e)
+        go r o v h false e = absurd (no-echoes r o v (rw (echo-else b i x p r e) at h))
+
+    pub only-vote : (q : List ℕ) → Only q (receive b i (vote q) x)
+    unfolding receive
+    only-vote q = record { no-send = none-sent; by-echoes = λ r o v h. absurd (no-echoes r o v h); by-votes = λ r o v h. go r o v h (same q r) refl }
+      where
+        go : (r : List ℕ) → x .output ≡ false → x .voted ≡ false → someOf b ≤ ones (voting b (receive b i (vote q) x) r) → (c : Bool) → same q r ≡ c → r ≡ q
+        go r o v h true e = sym (same-equal q r e)
+        go r o v h false e = absurd (no-votes r o v (rw (vote-else b i x q r e) at h))
+
+  -- ---- after a send
+
+  rest-one : (x : Figure) → Still b own x → (es : List Event) (y : Figure) → Fires b own x es y → (es ≡ []) × (y ≡ x)
+  rest-one x still es y (rests st) = (refl, refl)
+  rest-one x still es y (goes br f) = absurd (still _ _ br)
+
+  module _ (x : Figure) (p : Piece) (still : Still b own x) (at : At false x) (fresh : x .acquired ≡ false) where
+    abbrev waiting : Figure
+    waiting = record {
+      acquired = x .acquired;
+      voted = x .voted;
+      output = x .output;
+      done = x .done;
+      sent = some p;
+      echoOf = x .echoOf;
+      voteOf = x .voteOf;
+    }
+
+    abbrev echoed : List Event
+    echoed = pick (correct b own p) (sends (echo p) ∷ []) []
+
+    -- the other branches look at nothing that a send changes
+    acquired-still : Still b own (acquire x)
+    acquired-still es y (acquires q a c s) = absent (acquire x .sent) q refl s
+    acquired-still es y (votes-by-echoes r a v h) = still _ _ (votes-by-echoes r (record { going = a .going; place = a .place }) v h)
+    acquired-still es y (votes-by-votes r a v h) = still _ _ (votes-by-votes r (record { going = a .going; place = a .place }) v h)
+    acquired-still es y (opens r a v h) = still _ _ (opens r (record { going = a .going; place = a .place }) v h)
+    acquired-still es y (delivers r a h k) = still _ _ (delivers r (record { going = a .going; place = a .place }) h k)
+
+    acquired-by : (q : Piece) → some p ≡ some q → (pick (correct b own q) (sends (echo q) ∷ []) [] ≡ echoed)
+    acquired-by q e = let z : p ≡ q = cc in ap (λ (v : Piece). pick (correct b own v) (sends (echo v) ∷ []) []) (sym z)
+
+    send-turn : (es : List Event) (y : Figure) → Branch b own waiting es y → (es ≡ echoed) × (y ≡ acquire x)
+    send-turn es y (acquires q a c s) = (acquired-by q s, refl)
+    send-turn es y (votes-by-echoes r a v h) = absurd (still _ _ (votes-by-echoes r (record { going = a .going; place = a .place }) v h))
+    send-turn es y (votes-by-votes r a v h) = absurd (still _ _ (votes-by-votes r (record { going = a .going; place = a .place }) v h))
+    send-turn es y (opens r a v h) = absurd (still _ _ (opens r (record { going = a .going; place = a .place }) v h))
+    send-turn es y (delivers r a h k) = absurd (still _ _ (delivers r (record { going = a .going; place = a .place }) h k))
+
+    acquiring : Branch b own waiting echoed (acquire x)
+    acquiring = acquires p (record { going = at .going; place = at .place }) fresh refl
+
+    pub send-fires : Fires b own waiting echoed (acquire x)
+    send-fires = subst (λ (es : List Event). Fires b own waiting es (acquire x)) (append-nil echoed) (goes acquiring (rests acquired-still))
+
+    pub send-one : (es : List Event) (y : Figure) → Fires b own waiting es y → (es ≡ echoed) × (y ≡ acquire x)
+    send-one es y (rests st) = absurd (st _ _ acquiring)
+    send-one es y (goes {y = u} {es = ds} {fs = gs} br f) =
+        let (e, q) = send-turn ds u br in
+        let f′ : Fires b own (acquire x) gs y = subst (λ (i : Figure). Fires b own i gs y) q f in
+        let (g, z) = rest-one (acquire x) acquired-still gs y f′ in
+        (ap₂ _++_ e g ∙ append-nil echoed, z)

@@ -1,0 +1,166 @@
+-- An echo or a vote, once it is kept: what a step then does is what figure 5 fires; and what is put out and delivered, as events.
+use mathlib.Core.Path.{_≡_, refl, sym, subst, ap, _∙_}
+use Prim.Native.Nat.{ℕ, _+_, _-_, _*_, _/_, _≤_}
+use mathlib.Core.List.{List, [], _∷_, _++_, append-nil}
+use mathlib.Core.Bool.{Bool, true, false, not, _&&_, _||_}
+use mathlib.Core.Option.{Option, none}
+use native.Mathlib.Omega.{arith}
+use borrow.Author.Tests.{leb-true}
+use lib.Count.{ones}
+use lib.Dec.{leb}
+use lib.ListN.{length}
+use Rattle.octets.specs.Bytes.{pick, part, put}
+use Rattle.octets.proofs.Picks.{and-l, and-r, never}
+use Rattle.table.specs.Table.{kOf, mostOf, someOf}
+use Rattle.table.specs.declared.Table.{Table}
+use Rattle.table.proofs.Within.{Within, within}
+use Rattle.record.specs.Form.{recordOf}
+use Rattle.state.specs.State.{viewOf, echoAt, voteAt}
+use Rattle.state.specs.Sound.{flagsOk, naming}
+use Rattle.state.specs.declared.Marks.{Marks}
+use Rattle.state.proofs.Facts.{Sounds}
+use Rattle.board.specs.Stepped.{recordRoot, recordPath, voteDue, won, enoughUsable, votedNow, outputNow, endsNow, withFlags, settledTo}
+use Rattle.deliver.specs.Delivered.{Left}
+use Rattle.board_step.specs.Step.{outcome, stepped, putOut, resultIn, delivered}
+use Rattle.board_step.proofs.Due.{usable-enough}
+use Rattle.board_figure.specs.Figure.{Piece, echo, vote, Event, sends, outputs, Figure, echoing, usables, voting, turned, outcomeFor, Still, Fires}
+use Rattle.board_figure.specs.Shown.{figureIn, pieceOf, asRecord, sentBy, outputBy, answered}
+use Rattle.board_figure.proofs.Seen.{Heard, heard, echoing-seen, usables-seen, voting-seen}
+use Rattle.board_figure.proofs.Overdue.{still-of}
+use Rattle.board_figure.proofs.Results.{outcome-seen}
+use Rattle.board_figure.proofs.Reaching.{reaches}
+
+-- ---- what is put out and delivered, as events
+
+abbrev pub voteIf : Bool → List ℕ → List Event
+voteIf c root = pick c (sends (vote root) ∷ []) []
+
+abbrev pub outputIf : Bool → Option (List ℕ) → List Event
+outputIf c result = pick c (outputs result ∷ []) []
+
+output-alike : (c : Bool) (x y : Option (List ℕ)) → (c ≡ true → x ≡ y) → outputIf c x ≡ outputIf c y
+unfolding pick
+output-alike true x y h = ap (λ (z : Option (List ℕ)). outputs z ∷ []) (h refl)
+output-alike false x y h = refl
+
+pub word-sent : (a c : Bool) (result : Option (List ℕ)) (p f : ℕ) (r : List ℕ) → sentBy (voteIf a (recordRoot r) ++ outputIf c result) ≡ putOut false a p f r
+unfolding pick putOut
+word-sent true true result p f r = append-nil (recordOf 3 (recordRoot r) 0 [] [])
+word-sent true false result p f r = append-nil (recordOf 3 (recordRoot r) 0 [] [])
+word-sent false true result p f r = refl
+word-sent false false result p f r = refl
+
+pub word-output : (a c : Bool) (root : List ℕ) (result : Option (List ℕ)) (d : List ℕ) → outputBy (voteIf a root ++ outputIf c result) d ≡ delivered c result d
+unfolding pick delivered
+word-output true true root result d = refl
+word-output true false root result d = refl
+word-output false true root result d = refl
+word-output false false root result d = refl
+
+pub send-sent : (c v : Bool) (p f : ℕ) (r : List ℕ) → length (recordPath p r) ≡ 32 * p
+    → sentBy (pick c (sends (echo (pieceOf p f r)) ∷ []) []) ≡ putOut c (not v && (v || false)) p f r
+unfolding pick putOut
+send-sent true v p f r e =
+    let z : length (recordPath p r) / 32 ≡ p = omega arith in
+    append-nil (asRecord (echo (pieceOf p f r))) ∙ rw z
+send-sent false true p f r e = refl
+send-sent false false p f r e = refl
+
+pub send-output : (c : Bool) (q : Piece) (result : Option (List ℕ)) (d : List ℕ) → outputBy (pick c (sends (echo q) ∷ []) []) d ≡ delivered false result d
+unfolding pick delivered
+send-output true q result d = refl
+send-output false q result d = refl
+
+pub answers : (es : List Event) (w : List ℕ) (x : Left) (s o d : List ℕ) → sentBy es ≡ w → outputBy es d ≡ x
+    → outcome (stepped 0 (length w) (x .kind) (x .size)) s (put 0 w o) (x .buffer) ≡ answered es s o d
+unfolding answered
+answers es w x s o d e g = rw (e, g)
+
+-- ---- an echo or a vote for a root: marks m and bytes s once it is kept
+
+pub output-voted : (m : Marks) → flagsOk m ≡ true → m .output ≡ true → m .voted ≡ true
+unfolding flagsOk
+output-voted m h = go (m .output) (m .voted) (and-l _ _ h)
+  where
+    go : (o v : Bool) → (not o || v) ≡ true → o ≡ true → v ≡ true
+    go true v e t = e
+    go false v e t = never t
+
+module _ (b : Table) (own : ℕ) (m : Marks) (s root : List ℕ) (f : Sounds (viewOf b (settledTo b true m s root) s)) (going : m .done ≡ false)
+    (flags : m .output ≡ true → m .voted ≡ true) where
+  w : Within b
+  w = within b (f .lim)
+
+  words-heard : Heard b m
+  unfolding settledTo withFlags
+  words-heard = heard b (settledTo b true m s root) s f
+
+  abbrev x : Figure
+  x = figureIn b m s
+
+  by-echoes : leb (mostOf b) (ones (naming (b .n) (m .echoes) (λ j. part (echoAt j) 32 s) root)) ≡ true → mostOf b ≤ ones (echoing b x root)
+  by-echoes e = rw (echoing-seen b m s root) (leb-true (mostOf b) _ e)
+
+  by-votes : (q : ℕ) → leb q (ones (naming (b .n) (m .votes) (λ j. part (voteAt j) 32 s) root)) ≡ true → q ≤ ones (voting b x root)
+  by-votes q e = rw (voting-seen b m s root) (leb-true q _ e)
+
+  by-usables : enoughUsable b m s root ≡ true → kOf b ≤ ones (usables b x root)
+  unfolding enoughUsable
+  by-usables e = rw (usables-seen b m s words-heard root) (leb-true (kOf b) _ e)
+
+  abbrev after : Marks
+  after = settledTo b true m s root
+
+  start-same : x ≡ turned x (m .voted) (m .output) false
+  start-same = λ j. record {
+    acquired = m .acquired;
+    voted = m .voted;
+    output = m .output;
+    done = going j;
+    sent = none;
+    echoOf = x .echoOf;
+    voteOf = x .voteOf;
+  }
+
+  end-same : figureIn b after s ≡ turned x (votedNow b true m s root) (outputNow b true m s root) (endsNow b true m s root)
+  unfolding settledTo withFlags
+  end-same = λ j. record {
+    acquired = m .acquired;
+    voted = votedNow b true m s root;
+    output = outputNow b true m s root;
+    done = going j || endsNow b true m s root;
+    sent = none;
+    echoOf = x .echoOf;
+    voteOf = x .voteOf;
+  }
+
+  turns : Fires b own (turned x (m .voted) (m .output) false)
+      (voteIf (not (m .voted) && votedNow b true m s root) root ++ outputIf (endsNow b true m s root) (outcomeFor b x root))
+      (turned x (votedNow b true m s root) (outputNow b true m s root) (endsNow b true m s root))
+  unfolding votedNow outputNow endsNow voteDue won
+  turns =
+      reaches b own x root (won b m s root) (enoughUsable b m s root) (by-votes (mostOf b)) by-usables (m .voted) (m .output)
+      (leb (mostOf b) (ones (naming (b .n) (m .echoes) (λ j. part (echoAt j) 32 s) root)))
+      (leb (someOf b) (ones (naming (b .n) (m .votes) (λ j. part (voteAt j) 32 s) root))) flags by-echoes (by-votes (someOf b)) (won b m s root) (enoughUsable b m s root)
+      refl refl (subst (Still b own) end-same (still-of b after s f own))
+
+  ends-enough : endsNow b true m s root ≡ true → enoughUsable b m s root ≡ true
+  unfolding endsNow
+  ends-enough e = and-r (won b m s root) (enoughUsable b m s root) (and-r (outputNow b true m s root) _ e)
+
+  -- a delivery has n - t votes and k usable echoes
+  pub ends-counts : endsNow b true m s root ≡ true → (mostOf b ≤ ones (voting b (figureIn b m s) root)) × (kOf b ≤ ones (usables b (figureIn b m s) root))
+  unfolding endsNow won
+  ends-counts e = (by-votes (mostOf b) (and-l (won b m s root) (enoughUsable b m s root) (and-r (outputNow b true m s root) _ e)), by-usables (ends-enough e))
+
+  pub word-fires : Fires b own x (voteIf (not (m .voted) && votedNow b true m s root) root ++ outputIf (endsNow b true m s root) (resultIn b m s root)) (figureIn b after s)
+  word-fires =
+      let same : outputIf (endsNow b true m s root) (outcomeFor b x root) ≡ outputIf (endsNow b true m s root) (resultIn b m s root) =
+      output-alike (endsNow b true m s root) (outcomeFor b x root) (resultIn b m s root)
+      (λ e. outcome-seen b m s (f .lim) words-heard root (usable-enough b m s root (ends-enough e))) in
+      subst (λ (i : Figure). Fires b own i (voteIf (not (m .voted) && votedNow b true m s root) root ++ outputIf (endsNow b true m s root) (resultIn b m s root)) (figureIn b after s))
+      (sym start-same)
+      (subst (λ (i : Figure). Fires b own (turned x (m .voted) (m .output) false)
+      (voteIf (not (m .voted) && votedNow b true m s root) root ++ outputIf (endsNow b true m s root) (resultIn b m s root)) i) (sym end-same)
+      (subst (λ (l : List Event). Fires b own (turned x (m .voted) (m .output) false) (voteIf (not (m .voted) && votedNow b true m s root) root ++ l)
+      (turned x (votedNow b true m s root) (outputNow b true m s root) (endsNow b true m s root))) same turns))

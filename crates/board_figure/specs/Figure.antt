@@ -1,0 +1,198 @@
+-- Figure 5 of the broadcast paper (source document 000), "Receiving party P_j", as a definition of its own: what it has received, and its
+-- guarded branches. The quoted words are the figure's, in its order; document 01 departs from it in four places, marked "departure".
+use Prim.Native.Nat.{ℕ, suc, _≤_}
+use mathlib.Core.Path.{_≡_}
+use mathlib.Core.List.{List, [], _∷_, _++_}
+use mathlib.Core.Bool.{Bool, true, false, _&&_}
+use mathlib.Core.Option.{Option, none, some}
+use lib.Count.{ones}
+use lib.Dec.{eqb}
+use Rattle.octets.specs.Bytes.{pick, same}
+use Rattle.octets.specs.Sets.{setOf}
+use Rattle.table.specs.Table.{kOf, mostOf, someOf}
+use Rattle.table.specs.declared.Table.{Table}
+use Rattle.tree.specs.Check.{pathCorrect}
+use Rattle.deliver.specs.Delivered.{resultOf}
+
+-- ---- what is sent and received
+
+-- "r, π, f": a root, a validation path, a fragment
+pub record Piece : Type 0 where
+  pub root : List ℕ
+  pub path : List ℕ
+  pub fragment : List ℕ
+
+-- "(send, r, π, f)", "(echo, r, π, f)", "(vote, r)"; departure: "a malformed record or a fragment above s_max is refused", so it is none
+pub data Message : Type 0 where
+  send : Piece → Message
+  echo : Piece → Message
+  vote : List ℕ → Message
+
+-- "send .. to P_1, .., P_n"; "output m'", or none for "output ⊥"
+pub data Event : Type 0 where
+  sends : Message → Event
+  outputs : Option (List ℕ) → Event
+
+-- "π_i is a correct validation path for f_i under r at i"
+abbrev pub correct : Table → ℕ → Piece → Bool
+correct b i p = pathCorrect (b .n) i (p .root) (p .path) (p .fragment)
+
+-- what is looked at of an echo received from P_i; usable: its path is correct at i
+pub record Echo : Type 0 where
+  pub root : List ℕ
+  pub fragment : List ℕ
+  pub usable : Bool
+
+-- P_j: its variables, whether it waits in the "// output stage", and what it has received
+pub record Figure : Type 0 where
+  pub acquired : Bool
+  pub voted : Bool
+  pub output : Bool
+  pub done : Bool
+  pub sent : Option Piece  -- "received (send, r, π_j, f_j) from S", until it is acted on
+  pub echoOf : ℕ → Option Echo  -- "received (echo, r, π_i, f_i) from P_i"
+  pub voteOf : ℕ → Option (List ℕ)  -- "received (vote, r)" from P_i
+
+-- "acquired ← false, voted ← false, done ← true"; departure: "'done' starts false (printed: true)"
+abbrev pub begins : Figure
+begins = record { acquired = false; voted = false; output = false; done = false; sent = none; echoOf = λ i. none; voteOf = λ i. none }
+
+-- departure: "only the first echo and vote of a board count"
+unfoldable pub first : {X : Type 0} → Option X → X → Option X
+first none v = some v
+first (some u) v = some u
+
+-- with v received from P_i
+unfoldable pub noted : {X : Type 0} → ℕ → X → (ℕ → Option X) → ℕ → Option X
+noted i v f j = pick (eqb j i) (first (f j) v) (f j)
+
+-- "received .. from P_i": a message of P_i is there
+unfoldable pub receive : Table → ℕ → Message → Figure → Figure
+receive b i (send p) x = record {
+  acquired = x .acquired;
+  voted = x .voted;
+  output = x .output;
+  done = x .done;
+  sent = pick (eqb i (b .sender)) (some p) (x .sent);
+  echoOf = x .echoOf;
+  voteOf = x .voteOf;
+}
+receive b i (echo p) x = record {
+  acquired = x .acquired;
+  voted = x .voted;
+  output = x .output;
+  done = x .done;
+  sent = x .sent;
+  echoOf = noted i (record { root = p .root; fragment = p .fragment; usable = correct b i p }) (x .echoOf);
+  voteOf = x .voteOf;
+}
+receive b i (vote r) x = record {
+  acquired = x .acquired;
+  voted = x .voted;
+  output = x .output;
+  done = x .done;
+  sent = x .sent;
+  echoOf = x .echoOf;
+  voteOf = noted i r (x .voteOf);
+}
+
+-- ---- "for some r: received .. from .. distinct parties"
+
+-- the parties of which a test holds, P_i as bit i - 1: distinct parties are the ones of such a set
+unfoldable pub parties : Table → (ℕ → Bool) → ℕ
+parties b P = setOf (λ i. P (suc i)) 0 (b .n)
+
+-- whether what was received from a party is an echo for r, a usable one, a vote for r
+unfoldable pub echoFor : List ℕ → Option Echo → Bool
+echoFor r none = false
+echoFor r (some e) = same (e .root) r
+
+unfoldable pub usableEcho : List ℕ → Option Echo → Bool
+usableEcho r none = false
+usableEcho r (some e) = e .usable && same (e .root) r
+
+unfoldable pub voteFor : List ℕ → Option (List ℕ) → Bool
+voteFor r none = false
+voteFor r (some q) = same q r
+
+-- "received (echo, r, ·, ·) from" these
+abbrev pub echoing : Table → Figure → List ℕ → ℕ
+echoing b x r = parties b (λ i. echoFor r (x .echoOf i))
+
+-- "received (echo, r, π_i, f_i) from P_i and π_i is a correct validation path for f_i under r at i": from these
+abbrev pub usables : Table → Figure → List ℕ → ℕ
+usables b x r = parties b (λ i. usableEcho r (x .echoOf i))
+
+-- "received (vote, r) from" these
+abbrev pub voting : Table → Figure → List ℕ → ℕ
+voting b x r = parties b (λ i. voteFor r (x .voteOf i))
+
+-- ---- the branches
+
+-- "while not done", at the loop's wait (stage is false) or at the wait of the "// output stage" (true)
+pub record At (stage : Bool) (x : Figure) : Type 0 where
+  pub going : x .done ≡ false
+  pub place : x .output ≡ stage
+
+-- x with these three
+abbrev pub turned : Figure → Bool → Bool → Bool → Figure
+turned x voted output done = record {
+  acquired = x .acquired;
+  voted = voted;
+  output = output;
+  done = done;
+  sent = x .sent;
+  echoOf = x .echoOf;
+  voteOf = x .voteOf;
+}
+
+-- "acquired ← true"; the send is used up
+abbrev pub acquire : Figure → Figure
+acquire x = record {
+  acquired = true;
+  voted = x .voted;
+  output = x .output;
+  done = x .done;
+  sent = none;
+  echoOf = x .echoOf;
+  voteOf = x .voteOf;
+}
+
+-- f_i
+unfoldable pub echoFragment : Option Echo → List ℕ
+echoFragment none = []
+echoFragment (some e) = e .fragment
+
+-- "reconstruct the message m' from the fragments {f_i}; compute the fragments (f'_1, .., f'_n) of message m'; build the Merkle tree ..
+-- with root r'; if r = r' then output m' else output ⊥", from the k lowest-numbered; departure: "unequal lengths and unreadable blocks are void"
+unfoldable pub outcomeFor : Table → Figure → List ℕ → Option (List ℕ)
+outcomeFor b x r = resultOf b r (usables b x r) (λ i. echoFragment (x .echoOf i))
+
+-- A branch of P_own that is enabled in x, what it sends or outputs, and where it leads: "wait until either: .. ⇒ .."
+pub data Branch (b : Table) (own : ℕ) (x : Figure) : List Event → Figure → Type 0 where
+  -- "not acquired and for some (r, π_j, f_j): received (send, r, π_j, f_j) from S ⇒ acquired ← true;
+  -- if π_j is a correct validation path for f_j under r at j then send (echo, r, π_j, f_j) to P_1, .., P_n"
+  acquires : (p : Piece) → At false x → x .acquired ≡ false → x .sent ≡ some p
+      → Branch b own x (pick (correct b own p) (sends (echo p) ∷ []) []) (acquire x)
+  -- "not voted and for some r: received (echo, r, ·, ·) from n - t distinct parties ⇒ send (vote, r) to P_1, .., P_n; voted ← true"
+  votes-by-echoes : (r : List ℕ) → At false x → x .voted ≡ false → mostOf b ≤ ones (echoing b x r)
+      → Branch b own x (sends (vote r) ∷ []) (turned x true (x .output) (x .done))
+  -- "not voted and for some r: received (vote, r) from t + 1 distinct parties ⇒ send (vote, r) to P_1, .., P_n; voted ← true"
+  votes-by-votes : (r : List ℕ) → At false x → x .voted ≡ false → someOf b ≤ ones (voting b x r)
+      → Branch b own x (sends (vote r) ∷ []) (turned x true (x .output) (x .done))
+  -- "voted and for some r: received (vote, r) from n - t distinct parties ⇒ // output stage"
+  opens : (r : List ℕ) → At false x → x .voted ≡ true → mostOf b ≤ ones (voting b x r)
+      → Branch b own x [] (turned x (x .voted) true (x .done))
+  -- "wait until: for some I ⊆ [n], {π_i, f_i}: |I| = n - 2t and for all i ∈ I: received (echo, r, π_i, f_i) from P_i and π_i is a correct
+  -- validation path .. output .. done ← true"; r is the root with n - t votes: it keeps them, and no other has them (one-root, proofs/Counts)
+  delivers : (r : List ℕ) → At true x → mostOf b ≤ ones (voting b x r) → kOf b ≤ ones (usables b x r)
+      → Branch b own x (outputs (outcomeFor b x r) ∷ []) (turned x (x .voted) (x .output) true)
+
+-- no branch is enabled
+abbrev pub Still : Table → ℕ → Figure → Type 0
+Still b own x = (es : List Event) (y : Figure) → Branch b own x es y → ⊥
+
+-- every branch that is enabled fires until none is: from x to y, and all that is sent or output on the way
+pub data Fires (b : Table) (own : ℕ) : Figure → List Event → Figure → Type 0 where
+  rests : {x : Figure} → Still b own x → Fires b own x [] x
+  goes : {x y z : Figure} {es fs : List Event} → Branch b own x es y → Fires b own y fs z → Fires b own x (es ++ fs) z

@@ -1,0 +1,2 @@
+-- Laws of `board_plan`: Plans of what was read.
+pub mod Plans

@@ -1,0 +1,2 @@
+-- What the contracts of `board_plan` cite beside those of `board`.
+pub mod Working

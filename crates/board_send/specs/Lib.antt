@@ -1,0 +1,3 @@
+-- What the contracts of `board_send` cite.
+pub mod Sent
+pub mod Laying

@@ -1,2 +1,0 @@
--- What the contracts of `boards` cite.
-pub mod Table

@@ -1,0 +1,3 @@
+-- What the contracts of `code_encode`, and of the crates above it, cite.
+pub mod Patch
+pub mod Message

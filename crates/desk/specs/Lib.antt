@@ -1,3 +1,0 @@
--- What the contracts of `desk` cite. To be read: Boards. Asked is what the functions ask of one another.
-pub mod Boards
-pub mod Asked

@@ -1,0 +1,2 @@
+-- What the contracts of `drill_lines` cite.
+pub mod Lines

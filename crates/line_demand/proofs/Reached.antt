@@ -1,0 +1,57 @@
+-- What holds of a board of the line at every point of a run: it is started, its state is sound, and no step is refused with 2 or 3.
+use Prim.Native.Nat.{ℕ}
+use mathlib.Core.Bool.{true, not}
+use mathlib.Core.Path.{_≡_, refl, subst, ap}
+use mathlib.Core.List.{List}
+use mathlib.Core.Option.{Option, some, none}
+use Rattle.octets.specs.Bytes.{pick}
+use Rattle.table.specs.Table.{limits, isBoard}
+use Rattle.table.specs.declared.Table.{Table}
+use Rattle.record.specs.Form.{parse}
+use Rattle.state.specs.State.{view, marksOf}
+use Rattle.state.specs.Sound.{sound}
+use Rattle.board.specs.declared.Plan.the-variants.{Refuse}
+use Rattle.board.specs.Planned.{byForm, planOf}
+use Rattle.line.specs.Boards.{Board}
+use Rattle.line.specs.Run.{Machine, In, hand, tell, Run, state}
+use Rattle.line.specs.Project.{project}
+use Rattle.line.proofs.Runs.{along}
+use Rattle.line.proofs.Projected.{shows}
+use Rattle.line.proofs.Tests.{none-some}
+use Rattle.line_demand.specs.Boards.{Desk, Roomy, next, boards}
+use Rattle.line_demand.proofs.Acts.{plan-is}
+use Rattle.line_demand.proofs.Started.{broadcast}
+use Rattle.line_demand.proofs.Carry.{sees, Holds, Shows, begun-some, carries}
+
+module _ (b : Table) (limited : limits b ≡ true) (lent : ℕ → Desk) (roomy : (j : ℕ) → Roomy b (lent j)) where
+  abbrev BB : Machine
+  BB = boards b lent
+
+  goes-on : (o : Option Desk) (x : In BB) → (d : Desk) × (o ≡ some d) → (d : Desk) × (next b o x ≡ some d)
+  unfolding next
+  goes-on none x (d, e) = none-some d e
+  goes-on (some d) (tell l) h = (_, refl)
+  goes-on (some d) (hand i r) h = (_, refl)
+
+  pub started : (j : ℕ) → Board (b .n) j → (r : Run BB) → (d : Desk) × (state BB r j ≡ some d)
+  started j bd = along BB (λ q o. (d : Desk) × (o ≡ some d)) j (begun-some b j (lent j) (roomy j) limited bd) (λ q x h. goes-on (state BB q j) x h) (λ q k x h. h)
+
+  -- so it takes what it is handed
+  pub passed : (j : ℕ) → Board (b .n) j → (i : ℕ) (β : List ℕ) (q : Run BB) → sees (state BB q j) (hand i β) ≡ some (hand i β)
+  passed j bd i β q = let (d, e) = started j bd q in ap (λ (o : Option Desk). sees o (hand i β)) e
+
+  module _ (r : Run BB) (j : ℕ) (d : Desk) (here : state BB r j ≡ some d) where
+    held : Holds b j d (state (broadcast b) (project BB (broadcast b) sees r) j)
+    unfolding carries
+    held = subst (λ o. Shows b j o (state (broadcast b) (project BB (broadcast b) sees r) j)) here (shows (carries b limited lent roomy) r j)
+
+    -- document 01: "Whatever state a start or a step leaves is sound."
+    pub run-sound : sound (view (d .state)) ≡ true
+    run-sound = held .is-sound
+
+    -- a record is refused for what it is and who it comes from, and for nothing else
+    pub run-plans : (i : ℕ) (x : List ℕ)
+        → planOf (d .state) i x (d .out) (d .delivery) ≡ pick (not (isBoard b i)) (Refuse 4) (byForm b (marksOf (d .state)) i (parse x))
+    run-plans i x =
+        let h = held in
+        plan-is b j (d .state) (h .table) (h .is-sound) (h .room) i x (d .out) (d .delivery) (h .out) (h .delivery)

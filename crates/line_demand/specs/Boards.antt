@@ -1,0 +1,100 @@
+-- A line of boards that are bytes: each runs `startOf` once and then `stepOf`, the definitions that the contracts of start and step cite.
+use Prim.Native.Nat.{ℕ, zero, suc, _≤_}
+use mathlib.Core.List.{List}
+use mathlib.Core.Bool.{Bool, true, false, _&&_}
+use mathlib.Core.Option.{Option, some, none}
+use lib.ListN.{length}
+use lib.Dec.{leb, eqb}
+use Rattle.record.specs.Form.{outBytes}
+use Rattle.octets.specs.Bytes.{pick, part}
+use Rattle.table.specs.declared.Table.{Table}
+use Rattle.state.specs.State.{stateSize}
+use Rattle.board.specs.Started.{startOf}
+use Rattle.board_step.specs.Step.{Outcome, stepOf}
+use Rattle.line.specs.Run.{Machine, Input, hand, tell}
+use Rattle.line_code.specs.Parts.{bytes}
+
+-- what a board holds: its state, and the outgoing record buffer and the delivery buffer that its firmware lends now
+pub record Desk : Type 0 where
+  pub state : List ℕ
+  pub out : List ℕ
+  pub delivery : List ℕ
+
+-- its firmware lends two other buffers, of whatever contents
+pub record Lend : Type 0 where
+  pub out : List ℕ
+  pub delivery : List ℕ
+
+-- "with buffers long enough"; shorter ones are not lent
+abbrev pub longEnough : Table → Lend → Bool
+longEnough b l = leb outBytes (length (l .out)) && leb (b .longest) (length (l .delivery))
+
+abbrev pub lends : Desk → Lend → Bool → Desk
+lends d l true = record { state = d .state; out = l .out; delivery = l .delivery }
+lends d l false = d
+
+-- "takes every record handed to it through this step": the record r from board i
+abbrev pub stepAt : Desk → ℕ → List ℕ → Outcome
+stepAt d i r = stepOf (d .state) i r (d .out) (d .delivery)
+
+abbrev pub deskOf : Outcome → Desk
+deskOf w = record { state = w .state; out = w .out; delivery = w .delivery }
+
+-- the record put out, by the answer's record length: the first so many bytes of the outgoing buffer
+abbrev pub recordIn : ℕ → List ℕ → Option (List ℕ)
+recordIn zero o = none
+recordIn (suc len) o = some (part 0 (suc len) o)
+
+-- the delivery, by the answer's delivery (0 none, 1 a message, 2 void) and message length: none for void
+abbrev pub deliveredIn : ℕ → ℕ → List ℕ → Option (Option (List ℕ))
+deliveredIn zero size d = none
+deliveredIn (suc zero) size d = some (some (part 0 size d))
+deliveredIn (suc (suc x)) size d = some none
+
+abbrev pub putIn : Outcome → Option (List ℕ)
+putIn w = recordIn (w .answer .«record_length») (w .out)
+
+abbrev pub givenIn : Outcome → Option (Option (List ℕ))
+givenIn w = deliveredIn (w .answer .delivery) (w .answer .«message_length») (w .delivery)
+
+-- What is no string of bytes cannot be handed over. A board whose start was refused (its number is not 1 to n) takes nothing.
+unfoldable pub next : Table → Option Desk → Input Lend (List ℕ) → Option Desk
+next b none x = none
+next b (some d) (tell l) = some (lends d l (longEnough b l))
+next b (some d) (hand i r) = some (pick (bytes r) (deskOf (stepAt d i r)) d)
+
+-- "meant for all n boards"
+unfoldable pub puts : Option Desk → Input Lend (List ℕ) → ℕ → Option (List ℕ)
+puts none x k = none
+puts (some d) (tell l) k = none
+puts (some d) (hand i r) k = pick (bytes r) (putIn (stepAt d i r)) none
+
+unfoldable pub gives : Option Desk → Input Lend (List ℕ) → Option (Option (List ℕ))
+gives none x = none
+gives (some d) (tell l) = none
+gives (some d) (hand i r) = pick (bytes r) (givenIn (stepAt d i r)) none
+
+-- "starts once": board j, with the buffers that it is lent
+unfoldable pub begin : Table → ℕ → Desk → Option Desk
+begin b j d =
+    pick (eqb (startOf b j (d .state) .number) 0)
+    (some (record { state = startOf b j (d .state) .state; out = d .out; delivery = d .delivery })) none
+
+-- "n boards started fresh with one table"; lent: the buffers of each before its start, of whatever contents
+abbrev pub boards : Table → (ℕ → Desk) → Machine
+boards b lent = record {
+  State = Option Desk;
+  Order = Lend;
+  Rec = List ℕ;
+  Result = Option (List ℕ);
+  start = λ j. begin b j (lent j);
+  next = next b;
+  puts = puts;
+  gives = gives;
+}
+
+-- "buffers long enough", before a start: "A state buffer needs 4,608 + n × s_max bytes; an outgoing record buffer 16,619; a delivery buffer L"
+pub record Roomy (b : Table) (d : Desk) : Type 0 where
+  pub state : stateSize b ≤ length (d .state)
+  pub out : outBytes ≤ length (d .out)
+  pub delivery : b .longest ≤ length (d .delivery)

@@ -1,3 +1,0 @@
--- Laws of `opening`: Nexts of the next line, Opens of what right lines give.
-pub mod Nexts
-pub mod Opens

@@ -1,2 +1,0 @@
--- Laws of `planning`: Plans of a record that was read.
-pub mod Plans

@@ -1,3 +1,0 @@
--- What the contracts of `printing` cite. To be read: Text. Printed is what its functions tell.
-pub mod Text
-pub mod Printed

@@ -1,5 +1,0 @@
--- What the contracts of `rebuilding` cite, and the crates above it.
-pub mod Rebuild
-pub mod Through
-pub mod Fits
-pub mod Sums

@@ -1,2 +1,0 @@
--- What the contracts of `rising` cite.
-pub mod Stack

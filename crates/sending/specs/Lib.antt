@@ -1,3 +1,0 @@
--- What the contracts of `sending` cite.
-pub mod Sent
-pub mod Laying

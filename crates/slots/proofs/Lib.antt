@@ -1,4 +1,0 @@
--- Laws of `slots`: Slots and Zeros of the lent buffers, Copied of a record in a slot.
-pub mod Slots
-pub mod Zeros
-pub mod Copied

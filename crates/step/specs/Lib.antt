@@ -1,3 +1,0 @@
--- What the contracts of `step` cite. To be read: Step. Asked is what its functions ask of one another.
-pub mod Step
-pub mod Asked

@@ -1,3 +1,0 @@
--- What the contracts of `summing` cite, and the crates above it.
-pub mod Sums
-pub mod Blocks

@@ -1,0 +1,2 @@
+-- What the contracts of `tree_stack` cite.
+pub mod Stack

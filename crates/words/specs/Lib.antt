@@ -1,3 +1,0 @@
--- What the contracts of `words` cite.
-pub mod Words
-pub mod Numbers
