@@ -37,11 +37,14 @@ KNOWN = $(if $(call have,openssl/sha.h,-lcrypto),-DHAVE_OPENSSL -lcrypto) \
         $(if $(call have,bearssl.h,-lbearssl),-DHAVE_BEARSSL -lbearssl) \
         $(if $(call have,isa-l/erasure_code.h,-lisal),-DHAVE_ISAL -lisal)
 
-.PHONY: help test lib demo line-demo drill bench growth stack soak fuzz house clean tools
-.PHONY: library-test header-test reference-test vectors-test ground-test board-test line-test drill-test examples-test stack-test
+.PHONY: help test statement lib demo line-demo drill bench growth stack soak fuzz house clean tools
+.PHONY: statement-test library-test header-test reference-test vectors-test ground-test board-test line-test drill-test examples-test stack-test
 
 help:
 	@echo "make test     everything: the prover's gate, then the tests in C against the library"
+	@echo "make statement"
+	@echo "              one page for an auditor, build/statement.html, from the specs: what is proved, every definition that it cites down to the"
+	@echo "              bytes, and the count of lines to believe"
 	@echo "make demo     a message cut into fragments and rebuilt; then a file spread over a line of boards while the sender fails, and"
 	@echo "              again while it lies; a picture of each run in build/. FILE=path spreads another file"
 	@echo "make drill    the drill program, build/drill: a script of steps in, a line for each step out"
@@ -54,7 +57,7 @@ help:
 	@echo "make house    draw anew what stands on what among the crates, docs/house.svg"
 	@echo "make clean    remove build/ and target/"
 	@echo
-	@echo "one part of the tests: library-test header-test reference-test vectors-test ground-test"
+	@echo "one part of the tests: statement-test library-test header-test reference-test vectors-test ground-test"
 	@echo "                       board-test line-test drill-test examples-test stack-test"
 	@echo "SEED=number   other random bytes for the tests in C"
 	@echo "RUNS=number   how many runs of lines; 20,000 if not given"
@@ -68,6 +71,11 @@ tools:
 
 build:
 	@mkdir -p build
+
+# It reads the specs and the contracts, and needs no prover.
+statement: | build
+	@command -v python3 > /dev/null || { echo "python3 is not here: it makes the page"; exit 1; }
+	@python3 -B docs/statement/statement.py build/statement.html
 
 build/libtumbeliko.a: $(CRATES) | build
 	@echo "proving the library (minutes, where nothing is proved yet); the prover's words go to build/staticlib.log"
@@ -169,6 +177,9 @@ build/seven: examples/seven.c $(HEADERS) $(LIB) | build $(TOOLS)
 build/line-demo: $(LINE) $(HEADERS) $(LIB) | build $(TOOLS)
 	@echo "building $@ with $(LIB)"
 	@$(BUILD) $(filter %.c,$(LINE)) $(LIB) $(LDFLAGS) -o $@
+
+statement-test: | build
+	@sh tests/statement.sh
 
 library-test: lib
 	@nm $(LIB) 2>/dev/null | grep -q ' T tumbeliko_hash$$'

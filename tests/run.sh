@@ -1,5 +1,5 @@
 #!/bin/sh
-# All tests, one after the other: the prover's gate, then the programs in C over the static library.
+# All tests, one after the other: the prover's gate, the auditor's page, then the programs in C over the static library.
 # Each part ends with a line 'N passed, M failed'; a part that ends without one counts as one failure.
 # What a part says of its progress is shown as it goes, all of it is kept in build/NAME.log.
 # The last line sums them up; the exit status is 0 only if nothing failed.
@@ -42,6 +42,7 @@ part() {
 }
 
 part prover rt ci
+part statement make --no-print-directory statement-test
 part tools sh tests/tools.sh
 part library make --no-print-directory library-test
 part header make --no-print-directory header-test
