@@ -43,6 +43,7 @@ part() {
 
 part prover rt ci
 part statement make --no-print-directory statement-test
+part calls sh tests/calls.sh
 part tools sh tests/tools.sh
 part library make --no-print-directory library-test
 part header make --no-print-directory header-test

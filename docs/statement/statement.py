@@ -20,7 +20,7 @@ from terms import read
 # What the page states: crate, folder and module, name. Of a theorem in proofs/ it shows what it says, not its proof.
 STATEMENT = [
     ("line_demand", "proofs.Demand", "demand-three"),
-    # ("line_demand", "specs.Demand", "DemandThree"),  # to be asked for once it stands there
+    ("line_demand", "specs.Demand", "DemandThree"),
 ]
 
 # The crates whose functions C calls, each a part of the page.

@@ -2,24 +2,26 @@
 use mathlib.Core.Path.{_≡_, refl, ap, _∙_}
 use Prim.Native.Nat.{ℕ, zero, suc, _+_, _-_, _^_, _≤_, _<_}
 use mathlib.Core.List.{List, _∷_, _++_}
-use mathlib.Core.Bool.{true, false, not}
+use mathlib.Core.Bool.{Bool, true, false, not, _&&_}
 use native.Mathlib.Omega.{arith}
 use native.Mathlib.Nat.{zero-div}
+use borrow.Author.Tests.{ltb-false, not-false}
 use lib.Count.{ones}
-use lib.Dec.{eqb}
+use lib.Dec.{eqb, ltb}
 use lib.ListN.{length, getD, replicate, length-append, length-replicate, List·getD-append}
 use Rattle.octets.specs.Bytes.{pick, put, two, twoAt, fourAt, eightAt}
 use Rattle.octets.proofs.Laws.{getD-put-in}
+use Rattle.octets.proofs.Picks.{and-l, and-r}
 use Rattle.octets.proofs.Tables.{getD-right}
 use Rattle.table.specs.Table.{limits, mostOf, someOf, isBoard}
 use Rattle.table.specs.declared.Table.{Table}
 use Rattle.table.proofs.Within.{within}
-use Rattle.state.specs.State.{fixedBytes, State, tableOf, ownOf, marksOf, view, viewOf, flag, lenAt}
+use Rattle.state.specs.State.{fixedBytes, stateSize, State, tableOf, ownOf, marksOf, view, viewOf, flag, lenAt}
 use Rattle.state.specs.Sound.{setsOk, flagsOk, usableOk, lengthOk, boardOk, quiet, sound}
 use Rattle.state.specs.declared.Marks.{Marks}
 use Rattle.octets.proofs.Members.{every-all, has-none}
 use Rattle.state.proofs.Tallies.{reaches-few}
-use Rattle.board.specs.Started.{freshBytes}
+use Rattle.board.specs.Started.{freshBytes, begun, startOf}
 
 -- no flag, no board
 abbrev pub unmarked : Marks
@@ -128,8 +130,40 @@ module _ (b : Table) (own : ℕ) (s : List ℕ) (lim : limits b ≡ true) (known
   start-marks = fresh-marks
 
   -- and is sound
-  pub start-sound : sound (view (put 0 (freshBytes b own) s)) ≡ true
+  pub fresh-sound : sound (view (put 0 (freshBytes b own) s)) ≡ true
   unfolding freshBytes
-  start-sound =
+  fresh-sound =
       rw (fresh-table, fresh-marks)
       (bare-sound b fresh lim (rw fresh-own known) (λ i h. two-zero fresh 6 fixedBytes high (lenAt i) (omega arith) (omega arith)))
+
+-- a start that is accepted: none of its refusals applies, and the fresh bytes are written
+pub record Accepted (b : Table) (own : ℕ) (s : List ℕ) : Type 0 where
+  pub lim : limits b ≡ true
+  pub known : isBoard b own ≡ true
+  pub room : stateSize b ≤ length s
+  pub long : fixedBytes ≤ length s
+  pub state : startOf b own s .state ≡ put 0 (freshBytes b own) s
+
+module _ (b : Table) (own : ℕ) (s : List ℕ) where
+  pub accepted : startOf b own s .number ≡ 0 → Accepted b own s
+  unfolding startOf pick stateSize
+  accepted = go (not (limits b && isBoard b own)) (ltb (length s) (stateSize b)) refl refl
+    where
+      go : (c d : Bool) → not (limits b && isBoard b own) ≡ c → ltb (length s) (stateSize b) ≡ d
+          → pick c (begun 1 s) (pick d (begun 2 s) (begun 0 (put 0 (freshBytes b own) s))) .number ≡ 0 → Accepted b own s
+      go true d e g h = absurd (omega arith)
+      go false true e g h = absurd (omega arith)
+      go false false e g h =
+          let both = not-false (limits b && isBoard b own) e in
+          let room = ltb-false (length s) (stateSize b) g in
+          record {
+            lim = and-l (limits b) (isBoard b own) both;
+            known = and-r (limits b) (isBoard b own) both;
+            room = room;
+            long = omega arith;
+            state = rw (e, g);
+          }
+
+  -- "whatever state a start .. leaves is sound"
+  pub start-sound : startOf b own s .number ≡ 0 → sound (view (startOf b own s .state)) ≡ true
+  start-sound h = let a = accepted h in rw (a .state) (fresh-sound b own s (a .lim) (a .known) (a .long))

@@ -57,5 +57,6 @@ planBy s from o d x =
     (pick (not (isBoard (tableOf s) from)) (Refuse 4)
     (byForm (tableOf s) (marksOf s) from x))))
 
+-- by the record itself, read
 unfoldable pub planOf : List ℕ → ℕ → List ℕ → List ℕ → List ℕ → Plan
 planOf s from r o d = planBy s from (length o) (length d) (parse r)

@@ -18,6 +18,7 @@ pub record Begun : Type 0 where
   pub number : ℕ
   pub state : List ℕ
 
+-- a start's answer and its state, as one
 abbrev pub begun : ℕ → List ℕ → Begun
 begun number state = record { number = number; state = state }
 

@@ -18,9 +18,11 @@ use Rattle.state.specs.declared.Marks.{Marks}
 abbrev pub recordRoot : List ℕ → List ℕ
 recordRoot r = part 3 32 r
 
+-- the path: nodes of 32 bytes after the root and its count
 abbrev pub recordPath : ℕ → List ℕ → List ℕ
 recordPath p r = part 37 (32 * p) r
 
+-- the fragment: the last section
 abbrev pub recordFragment : ℕ → ℕ → List ℕ → List ℕ
 recordFragment p f r = part (39 + 32 * p) f r
 

@@ -21,6 +21,11 @@ use Rattle.board_figure.specs.Figure.{echo, vote, Piece, Echo, Figure, c
 pub clash : {X : Type 0} (c : Bool) → c ≡ true → c ≡ false → X
 clash c t f = never (sym f ∙ t)
 
+-- a test that cannot hold does not
+pub fails : (c : Bool) → (c ≡ true → ⊥) → c ≡ false
+fails true h = absurd (h refl)
+fails false h = refl
+
 -- ---- tests that agree, but for one number; tests that exclude each other
 
 ones-tail : (P Q : ℕ → Bool) (a m : ℕ) → ((j : ℕ) → a ≤ j → P j ≡ Q j) → ones (setOf P a m) ≤ ones (setOf Q a m)

@@ -8,12 +8,13 @@ use native.Mathlib.Omega.{arith}
 use lib.Count.{ones}
 use Rattle.octets.specs.Bytes.{pick, same}
 use Rattle.octets.proofs.Sames.{same-equal}
-use Rattle.table.specs.Table.{mostOf, someOf}
+use Rattle.table.specs.Table.{limits, kOf, mostOf, someOf}
 use Rattle.table.specs.declared.Table.{Table}
-use Rattle.table.proofs.Within.{Within}
-use Rattle.board_figure.specs.Figure.{Piece, echo, vote, Event, sends, outputs, Figure, correct, receive, echoing, voting, At, turned, acquire, outcomeFor, Branch, acquires, votes-by-echoes, votes-by-votes, opens, delivers, Still, Fires, rests, goes}
+use Rattle.table.proofs.Within.{within}
+use Rattle.board_figure.specs.Figure.{Piece, echo, vote, Event, sends, outputs, Figure, correct, receive, echoing, usables, voting, At, turned, acquire, OutputFor, Branch, acquires, votes-by-echoes, votes-by-votes, opens, delivers, Still, Fires, rests, goes}
 use Rattle.octets.proofs.Picks.{never}
 use Rattle.board_figure.proofs.Counts.{clash, echo-else, vote-else, one-root}
+use Rattle.board_figure.proofs.Results.{one-output}
 
 absent : {X Y : Type 0} (o : Option X) (v : X) → o ≡ none → o ≡ some v → Y
 absent o v e f = absurd (let z : _≡_ {A = ℕ} 0 1 = cc in omega arith)
@@ -29,7 +30,8 @@ module _ (b : Table) (own : ℕ) where
   data Turn (root : List ℕ) (x : Figure) : List Event → Figure → Type 0 where
     votes : x .output ≡ false → x .voted ≡ false → Turn root x (sends (vote root) ∷ []) (turned x true (x .output) (x .done))
     opening : x .output ≡ false → x .voted ≡ true → Turn root x [] (turned x (x .voted) true (x .done))
-    ending : (r : List ℕ) → x .output ≡ true → mostOf b ≤ ones (voting b x r) → Turn root x (outputs (outcomeFor b x r) ∷ []) (turned x (x .voted) (x .output) true)
+    ending : (r : List ℕ) (m : Option (List ℕ)) → x .output ≡ true → mostOf b ≤ ones (voting b x r) → kOf b ≤ ones (usables b x r) → OutputFor b x r m
+        → Turn root x (outputs m ∷ []) (turned x (x .voted) (x .output) true)
 
   voting-for : (root r : List ℕ) (x : Figure) → r ≡ root → x .output ≡ false → x .voted ≡ false
       → Turn root x (sends (vote r) ∷ []) (turned x true (x .output) (x .done))
@@ -40,27 +42,30 @@ module _ (b : Table) (own : ℕ) where
   turn root x o es y (votes-by-echoes r a v h) = voting-for root r x (o .by-echoes r (a .place) v h) (a .place) v
   turn root x o es y (votes-by-votes r a v h) = voting-for root r x (o .by-votes r (a .place) v h) (a .place) v
   turn root x o es y (opens r a v h) = opening (a .place) v
-  turn root x o es y (delivers r a h k) = ending r (a .place) h
+  turn root x o es y (delivers r m a h k g) = ending r m (a .place) h k g
 
-  turn-one : Within b → (root : List ℕ) (x : Figure) (es fs : List Event) (y z : Figure) → Turn root x es y → Turn root x fs z → (es ≡ fs) × (y ≡ z)
+  turn-one : limits b ≡ true → (root : List ℕ) (x : Figure) (es fs : List Event) (y z : Figure) → Turn root x es y → Turn root x fs z → (es ≡ fs) × (y ≡ z)
   turn-one w root x es fs y z (votes o v) (votes p u) = (refl, refl)
   turn-one w root x es fs y z (votes o v) (opening p u) = clash (x .voted) u v
-  turn-one w root x es fs y z (votes o v) (ending r p h) = clash (x .output) p o
+  turn-one l root x es fs y z (votes o v) (ending r n p h k e) = clash (x .output) p o
   turn-one w root x es fs y z (opening o v) (votes p u) = clash (x .voted) v u
   turn-one w root x es fs y z (opening o v) (opening p u) = (refl, refl)
-  turn-one w root x es fs y z (opening o v) (ending r p h) = clash (x .output) p o
-  turn-one w root x es fs y z (ending q o g) (votes p u) = clash (x .output) o p
-  turn-one w root x es fs y z (ending q o g) (opening p u) = clash (x .output) o p
-  turn-one w root x es fs y z (ending q o g) (ending r p h) = (ap (λ (v : List ℕ). outputs (outcomeFor b x v) ∷ []) (one-root b w x q r g h), refl)
+  turn-one l root x es fs y z (opening o v) (ending r n p h k e) = clash (x .output) p o
+  turn-one l root x es fs y z (ending q m o g j d) (votes p u) = clash (x .output) o p
+  turn-one l root x es fs y z (ending q m o g j d) (opening p u) = clash (x .output) o p
+  turn-one l root x es fs y z (ending q m o g j d) (ending r n p h k e) =
+      let same : q ≡ r = one-root b (within b l) x q r g h in
+      let one : m ≡ n = one-output b l x r k m n (subst (λ (v : List ℕ). OutputFor b x v m) same d) e in
+      (ap (λ (v : Option (List ℕ)). outputs v ∷ []) one, refl)
 
   -- a branch leaves no other root to bring a vote
   only-still : (root : List ℕ) (x : Figure) → Only root x → (es : List Event) (y : Figure) → Turn root x es y → Only root y
   only-still root x o es y (votes p v) = record { no-send = o .no-send; by-echoes = λ r a c h. never (sym c); by-votes = λ r a c h. never (sym c) }
   only-still root x o es y (opening p v) = record { no-send = o .no-send; by-echoes = λ r a c h. never (sym a); by-votes = λ r a c h. never (sym a) }
-  only-still root x o es y (ending q p g) = record { no-send = o .no-send; by-echoes = λ r a c h. clash (x .output) p a; by-votes = λ r a c h. clash (x .output) p a }
+  only-still root x o es y (ending q m p g j d) = record { no-send = o .no-send; by-echoes = λ r a c h. clash (x .output) p a; by-votes = λ r a c h. clash (x .output) p a }
 
   -- so all firing from there sends and outputs the same and ends at the same
-  pub fires-one : Within b → (root : List ℕ) (x : Figure) → Only root x → (es fs : List Event) (y z : Figure)
+  pub fires-one : limits b ≡ true → (root : List ℕ) (x : Figure) → Only root x → (es fs : List Event) (y z : Figure)
       → Fires b own x es y → Fires b own x fs z → (es ≡ fs) × (y ≡ z)
   fires-one w root x o es fs y z (rests st) (rests su) = (refl, refl)
   fires-one w root x o es fs y z (rests st) (goes br f) = absurd (st _ _ br)
@@ -125,7 +130,7 @@ module _ (b : Table) (own : ℕ) where
     acquired-still es y (votes-by-echoes r a v h) = still _ _ (votes-by-echoes r (record { going = a .going; place = a .place }) v h)
     acquired-still es y (votes-by-votes r a v h) = still _ _ (votes-by-votes r (record { going = a .going; place = a .place }) v h)
     acquired-still es y (opens r a v h) = still _ _ (opens r (record { going = a .going; place = a .place }) v h)
-    acquired-still es y (delivers r a h k) = still _ _ (delivers r (record { going = a .going; place = a .place }) h k)
+    acquired-still es y (delivers r m a h k g) = still _ _ (delivers r m (record { going = a .going; place = a .place }) h k g)
 
     acquired-by : (q : Piece) → some p ≡ some q → (pick (correct b own q) (sends (echo q) ∷ []) [] ≡ echoed)
     acquired-by q e = let z : p ≡ q = cc in ap (λ (v : Piece). pick (correct b own v) (sends (echo v) ∷ []) []) (sym z)
@@ -135,7 +140,7 @@ module _ (b : Table) (own : ℕ) where
     send-turn es y (votes-by-echoes r a v h) = absurd (still _ _ (votes-by-echoes r (record { going = a .going; place = a .place }) v h))
     send-turn es y (votes-by-votes r a v h) = absurd (still _ _ (votes-by-votes r (record { going = a .going; place = a .place }) v h))
     send-turn es y (opens r a v h) = absurd (still _ _ (opens r (record { going = a .going; place = a .place }) v h))
-    send-turn es y (delivers r a h k) = absurd (still _ _ (delivers r (record { going = a .going; place = a .place }) h k))
+    send-turn es y (delivers r m a h k g) = absurd (still _ _ (delivers r m (record { going = a .going; place = a .place }) h k g))
 
     acquiring : Branch b own waiting echoed (acquire x)
     acquiring = acquires p (record { going = at .going; place = at .place }) fresh refl

@@ -15,15 +15,18 @@ use mathlib.Core.Logic.{⊎-elim}
 use Rattle.table.specs.Table.{limits, kOf, mostOf, someOf}
 use Rattle.table.specs.declared.Table.{Table}
 use Rattle.table.proofs.Within.{Within, within}
+use Rattle.code.specs.Code.{All, Byte}
 use Rattle.state.specs.State.{State, view, viewOf, tableOf, ownOf, marksOf, echoAt, voteAt}
 use Rattle.state.specs.Sound.{naming, reaches, waitsAt, waits, quiet, sound, flagsOk}
 use Rattle.state.specs.declared.Marks.{Marks}
 use Rattle.octets.proofs.Members.{some-at, some-find}
 use Rattle.state.proofs.Facts.{Sounds, sounds}
 use Rattle.state.proofs.Tallies.{naming-find}
+use Rattle.board_step.specs.Step.{usableFor, resultIn}
 use Rattle.board_figure.specs.Figure.{Figure, echoing, usables, voting, At, acquires, votes-by-echoes, votes-by-votes, opens, delivers, Still}
 use Rattle.board_figure.specs.Shown.{figureIn, figureOf}
-use Rattle.board_figure.proofs.Counts.{clash, one-root}
+use Rattle.board_figure.proofs.Counts.{clash, fails, one-root}
+use Rattle.board_figure.proofs.Results.{output-seen}
 use Rattle.board_figure.proofs.Seen.{Heard, heard, echoing-seen, usables-seen, voting-seen}
 
 -- a root that q boards name, and some root that q boards name
@@ -128,7 +131,7 @@ module _ (b : Table) (m : Marks) (s : List ℕ) where
   still-by w g own h es y (votes-by-echoes r a u k) = clash most-echoes (overdue-echoes w r k) (when-unvoted h (a .place) u .0)
   still-by w g own h es y (votes-by-votes r a u k) = clash some-votes (overdue-votes (someOf b) r (omega arith) k) (when-unvoted h (a .place) u .1)
   still-by w g own h es y (opens r a u k) = clash most-votes (overdue-votes (mostOf b) r (omega (arith, w .third)) k) (when-voted h (a .place) u)
-  still-by w g own h es y (delivers r a k l) = too-few w g (when-open h (a .place) (a .going)) r k l
+  still-by w g own h es y (delivers r o a k l e) = too-few w g (when-open h (a .place) (a .going)) r k l
 
   pub still-of : Sounds v → (own : ℕ) → Still b own x
   unfolding quiet
@@ -140,12 +143,7 @@ module _ (b : Table) (m : Marks) (s : List ℕ) where
 
   -- ---- and back: where no branch is enabled, nothing is overdue
 
-  -- a test that cannot hold does not
-  fails : (c : Bool) → (c ≡ true → ⊥) → c ≡ false
-  fails true h = absurd (h refl)
-  fails false h = refl
-
-  module _ (w : Within b) (g : Heard b m) (own : ℕ) (still : Still b own x) where
+  module _ (lim : limits b ≡ true) (bytes : All Byte s) (g : Heard b m) (own : ℕ) (still : Still b own x) where
     no-echoes : At false x → m .voted ≡ false → most-echoes ≡ false
     no-echoes a u =
         fails most-echoes
@@ -161,10 +159,15 @@ module _ (b : Table) (m : Marks) (s : List ℕ) where
         fails most-votes
         (λ e. let (r, h) = reaches-of (b .n) (mostOf b) (m .votes) voteRoot e in still _ _ (opens r a u (rw (voting-seen b m s r) h)))
 
+    enough : (r : List ℕ) → kOf b ≤ ones (naming (b .n) (m .usable) echoRoot r) → kOf b ≤ ones (usableFor b m s r)
+    unfolding usableFor
+    enough r l = l
+
     still-waits : At true x → (r : List ℕ) → mostOf b ≤ ones (voting b x r) → waits v ≡ true
     still-waits a r h =
         let u = usables-seen b m s g r in
-        ⊎-elim (λ l. waits-for w r (rw (voting-seen b m s r) at h) (rw u at l)) (λ l. absurd (still _ _ (delivers r a h l)))
+        ⊎-elim (λ l. waits-for (within b lim) r (rw (voting-seen b m s r) at h) (rw u at l))
+        (λ l. absurd (still _ _ (delivers r (resultIn b m s r) a h l (output-seen b m s lim g bytes r (enough r (rw u at l))))))
         (lt-or-le (ones (usables b x r)) (kOf b))
 
     -- "in the output stage and not done, one root has n-t votes" is said beside
@@ -195,7 +198,7 @@ pub root-waits : (s : List ℕ) → sound (view s) ≡ true → marksOf s .outpu
 root-waits s h = waiting-root (tableOf s) (marksOf s) s (sounds (view s) h)
 
 -- and back: these two, with the other conditions of soundness, say that nothing is overdue
-pub nothing-enabled : (s : List ℕ) → limits (tableOf s) ≡ true → flagsOk (marksOf s) ≡ true → Heard (tableOf s) (marksOf s)
+pub nothing-enabled : (s : List ℕ) → All Byte s → limits (tableOf s) ≡ true → flagsOk (marksOf s) ≡ true → Heard (tableOf s) (marksOf s)
     → (marksOf s .output ≡ true → marksOf s .done ≡ false → (r : List ℕ) × (mostOf (tableOf s) ≤ ones (voting (tableOf s) (figureOf s) r)))
     → Still (tableOf s) (ownOf s) (figureOf s) → quiet (view s) ≡ true
-nothing-enabled s lim flags g opened still = calm-if-still (tableOf s) (marksOf s) s (within (tableOf s) lim) g (ownOf s) still flags opened
+nothing-enabled s bytes lim flags g opened still = calm-if-still (tableOf s) (marksOf s) s lim bytes g (ownOf s) still flags opened

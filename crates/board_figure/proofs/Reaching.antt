@@ -3,24 +3,25 @@ use mathlib.Core.Path.{_≡_, refl}
 use Prim.Native.Nat.{ℕ, _≤_}
 use mathlib.Core.List.{List, [], _∷_, _++_}
 use mathlib.Core.Bool.{Bool, true, false, not, _&&_, _||_}
+use mathlib.Core.Option.{Option}
 use lib.Count.{ones}
 use Rattle.octets.specs.Bytes.{pick}
 use Rattle.table.specs.Table.{kOf, mostOf, someOf}
 use Rattle.table.specs.declared.Table.{Table}
-use Rattle.board_figure.specs.Figure.{vote, Event, sends, outputs, Figure, echoing, usables, voting, turned, outcomeFor, votes-by-echoes, votes-by-votes, opens, delivers, Still, Fires, rests, goes}
+use Rattle.board_figure.specs.Figure.{vote, Event, sends, outputs, Figure, echoing, usables, voting, turned, OutputFor, votes-by-echoes, votes-by-votes, opens, delivers, Still, Fires, rests, goes}
 use Rattle.octets.proofs.Picks.{never}
 
--- de, dv, w, k: n - t echoes, t + 1 votes, n - t votes, k usable echoes are for the root
+-- de, dv, w, k: n - t echoes, t + 1 votes, n - t votes, k usable echoes are for the root; m is then what is output
 module _ (b : Table) (own : ℕ) (x : Figure) (root : List ℕ) (w k : Bool) (won : w ≡ true → mostOf b ≤ ones (voting b x root))
-    (enough : k ≡ true → kOf b ≤ ones (usables b x root)) where
+    (enough : k ≡ true → kOf b ≤ ones (usables b x root)) (m : Option (List ℕ)) (there : k ≡ true → OutputFor b x root m) where
   abbrev output : List Event
-  output = outputs (outcomeFor b x root) ∷ []
+  output = outputs m ∷ []
 
   -- in the output stage
   ends : (c d : Bool) → w ≡ c → k ≡ d → Still b own (turned x true true (c && d))
       → Fires b own (turned x true true false) (pick (c && d) output []) (turned x true true (c && d))
-  unfolding pick outcomeFor
-  ends true true e f st = goes (delivers root (record { going = refl; place = refl }) (won e) (enough f)) (rests st)
+  unfolding pick
+  ends true true e f st = goes (delivers root m (record { going = refl; place = refl }) (won e) (enough f) (there f)) (rests st)
   ends true false e f st = rests st
   ends false d e f st = rests st
 
@@ -33,7 +34,7 @@ module _ (b : Table) (own : ℕ) (x : Figure) (root : List ℕ) (w k : Bool) (wo
 
   -- what is sent and output: voted before, voted now, done now
   abbrev pub events : Bool → Bool → Bool → List Event
-  events before now done = pick (not before && now) (sends (vote root) ∷ []) [] ++ pick done (outputs (outcomeFor b x root) ∷ []) []
+  events before now done = pick (not before && now) (sends (vote root) ∷ []) [] ++ pick done (outputs m ∷ []) []
 
   -- v, o: voted and in the output stage before; not done
   pub reaches : (v o de dv : Bool) → (o ≡ true → v ≡ true) → (de ≡ true → mostOf b ≤ ones (echoing b x root)) → (dv ≡ true → someOf b ≤ ones (voting b x root))

@@ -11,7 +11,8 @@ use Rattle.octets.specs.Bytes.{pick, put}
 use Rattle.octets.proofs.Picks.{or-none-r, not-none, or-false}
 use Rattle.table.specs.Table.{sMax}
 use Rattle.table.specs.declared.Table.{Table}
-use Rattle.table.proofs.Within.{within, board-number}
+use Rattle.table.proofs.Within.{board-number}
+use Rattle.code.specs.Code.{All, Byte}
 use Rattle.record.proofs.Facts.{whole}
 use Rattle.record.proofs.PartLaws.{kind-few}
 use Rattle.state.specs.State.{view, viewOf, tableOf, ownOf, marksOf}
@@ -22,7 +23,7 @@ use Rattle.board.specs.declared.Plan.the-variants.{Take}
 use Rattle.board.specs.Planned.{isStray, isLate, isAgain, planOf}
 use Rattle.board.specs.Stepped.{recordRoot, marked, kept, votedNow, outputNow, endsNow, withFlags, settledTo, leaves}
 use Rattle.board.proofs.Taken.{Taken, taken, not-done, fragment-room}
-use Rattle.board.proofs.KeptLaws.{kept-length, kept-table}
+use Rattle.board.proofs.KeptLaws.{kept-length, kept-table, left-table, left-own}
 use Rattle.board.proofs.StepSound.{fit, settled-sounds}
 use Rattle.deliver.specs.Delivered.{Left}
 use Rattle.board_step.specs.Step.{outcome, stepped, good, placeOf, putOut, resultIn, delivered, saidBy, takenOf, byPlan, stepOf}
@@ -31,6 +32,7 @@ use Rattle.board_step.proofs.Taking.{formed}
 use Rattle.board_figure.specs.Figure.{Piece, echo, sends, Figure, correct, receive, At, acquire, Still, Fires}
 use Rattle.board_figure.specs.Shown.{figureIn, figureOf, pieceOf, messageOf, AsFigure}
 use Rattle.board_figure.proofs.Firing.{Only, fires-one, only-echo, only-vote, send-fires, send-one}
+use Rattle.board_figure.proofs.Octets.{kept-bytes}
 use Rattle.board_figure.proofs.Overdue.{nothing-overdue}
 use Rattle.board_figure.proofs.Received.{echo-received, vote-received, send-acquired, figure-marks}
 use Rattle.board_figure.proofs.Reaching.{events}
@@ -67,14 +69,14 @@ module _ (s : List ℕ) (from : ℕ) (r o d : List ℕ) (p f : ℕ) where
       ∙ ap (λ (a : Table). figureIn a m s1) (kept-table (sMax b) k i p f r s)
 
   -- an echo or a vote: marks m and bytes s1 once it is kept, and the state left
-  words : (k : ℕ) (m : Marks) (s1 left : List ℕ) → Sounds (viewOf b (settledTo b true m s1 root) s1) → m .done ≡ false → (m .output ≡ true → m .voted ≡ true)
-      → figureOf left ≡ figureIn b (settledTo b true m s1 root) s1
+  words : (k : ℕ) (m : Marks) (s1 left : List ℕ) → All Byte s1 → Sounds (viewOf b (settledTo b true m s1 root) s1) → m .done ≡ false → (m .output ≡ true → m .voted ≡ true)
+      → tableOf left ≡ b → ownOf left ≡ own → figureOf left ≡ figureIn b (settledTo b true m s1 root) s1
       → figureIn b m s1 ≡ receive b from (messageOf k p f r) (figureOf s)
       → Only b own root (receive b from (messageOf k p f r) (figureOf s))
       → (w : List ℕ) (x : Left) → w ≡ putOut false (not (m .voted) && votedNow b true m s1 root) p f r
       → x ≡ delivered (endsNow b true m s1 root) (resultIn b m s1 root) d
       → AsFigure s from r o d k p f (outcome (stepped 0 (length w) (x .kind) (x .size)) left (put 0 w o) (x .buffer))
-  words k m s1 left g going flags shown received only w x ew ex =
+  words k m s1 left bytes g going flags table-stays own-stays shown received only w x ew ex =
       let a = not (m .voted) && votedNow b true m s1 root in
       let c = endsNow b true m s1 root in
       let result = resultIn b m s1 root in
@@ -82,12 +84,14 @@ module _ (s : List ℕ) (from : ℕ) (r o d : List ℕ) (p f : ℕ) where
       let start = receive b from (messageOf k p f r) (figureOf s) in
       let fires : Fires b own start es (figureOf left) =
       subst (λ (y : Figure). Fires b own y es (figureOf left)) received
-      (subst (λ (y : Figure). Fires b own (figureIn b m s1) es y) (sym shown) (word-fires b own m s1 root g going flags)) in
+      (subst (λ (y : Figure). Fires b own (figureIn b m s1) es y) (sym shown) (word-fires b own m s1 root g going flags bytes)) in
       record {
         events = es;
         fires = fires;
         answer = answers es w x left o d (word-sent a c result p f r ∙ sym ew) (word-output a c root result d ∙ sym ex);
-        only = λ fs y h. fires-one b own (within b (g .lim)) root start only fs es y (figureOf left) h fires;
+        table = table-stays;
+        own = own-stays;
+        only = λ fs y h. fires-one b own (g .lim) root start only fs es y (figureOf left) h fires;
       }
 
   module _ (k : ℕ) (t : Taken s from r o d k p f) where
@@ -120,19 +124,19 @@ module _ (s : List ℕ) (from : ℕ) (r o d : List ℕ) (p f : ℕ) where
       let h = formed s from r o d 3 p f t in
       rw (number 3 t) at (vote-received b m0 s i (old 3 t) (t .long) (low 3 t) root (good 3 p f from r s) (root-length r p f h) (t .allowed .again))
 
-  echo-figured : Taken s from r o d 2 p f → AsFigure s from r o d 2 p f (takenOf 2 p f s from r o d)
+  echo-figured : All Byte s → All Byte r → Taken s from r o d 2 p f → AsFigure s from r o d 2 p f (takenOf 2 p f s from r o d)
   unfolding takenOf messageOf marked pick saidBy
-  echo-figured t =
+  echo-figured hs hr t =
       let ok = good 2 p f from r s in
-      words 2 (marked 2 i ok m0) (kept (sMax b) 2 i p f r s) (leaves ok 2 p f from r s) (settled-sounds s from r o d ok 2 p f t) (not-done t)
-      (output-voted m0 (old 2 t .flags)) (left-shown 2 t ok) (echo-shown t) (only-echo b own from (figureOf s) (still 2 t) refl (not-done t) piece) _ _ refl refl
+      words 2 (marked 2 i ok m0) (kept (sMax b) 2 i p f r s) (leaves ok 2 p f from r s) (kept-bytes s from r o d hs hr (sMax b) 2 p f) (settled-sounds s from r o d ok 2 p f t) (not-done t)
+      (output-voted m0 (old 2 t .flags)) (left-table ok 2 p f from r s) (left-own ok 2 p f from r s) (left-shown 2 t ok) (echo-shown t) (only-echo b own from (figureOf s) (still 2 t) refl (not-done t) piece) _ _ refl refl
 
-  vote-figured : Taken s from r o d 3 p f → AsFigure s from r o d 3 p f (takenOf 3 p f s from r o d)
+  vote-figured : All Byte s → All Byte r → Taken s from r o d 3 p f → AsFigure s from r o d 3 p f (takenOf 3 p f s from r o d)
   unfolding takenOf messageOf marked pick saidBy
-  vote-figured t =
+  vote-figured hs hr t =
       let ok = good 3 p f from r s in
-      words 3 (marked 3 i ok m0) (kept (sMax b) 3 i p f r s) (leaves ok 3 p f from r s) (settled-sounds s from r o d ok 3 p f t) (not-done t)
-      (output-voted m0 (old 3 t .flags)) (left-shown 3 t ok) (vote-shown t) (only-vote b own from (figureOf s) (still 3 t) refl (not-done t) root) _ _ refl refl
+      words 3 (marked 3 i ok m0) (kept (sMax b) 3 i p f r s) (leaves ok 3 p f from r s) (kept-bytes s from r o d hs hr (sMax b) 3 p f) (settled-sounds s from r o d ok 3 p f t) (not-done t)
+      (output-voted m0 (old 3 t .flags)) (left-table ok 3 p f from r s) (left-own ok 3 p f from r s) (left-shown 3 t ok) (vote-shown t) (only-vote b own from (figureOf s) (still 3 t) refl (not-done t) root) _ _ refl refl
 
   -- a send brings nothing that is due
   settled-none : (m : Marks) (s1 : List ℕ) → figureIn b (settledTo b false m s1 root) s1 ≡ figureIn b m s1
@@ -193,23 +197,25 @@ module _ (s : List ℕ) (from : ℕ) (r o d : List ℕ) (p f : ℕ) where
           fires = subst (λ (y : Figure). Fires b own y es (figureOf left)) send-received
               (subst (λ (y : Figure). Fires b own waits es y) shown (send-fires b own (figureOf s) piece (still 1 t) at-loop fresh));
           answer = answers es _ _ left o d (send-sent ok (m0 .voted) p f r (path-length r p f h)) (send-output ok piece _ d);
+          table = left-table ok 1 p f from r s;
+          own = left-own ok 1 p f from r s;
           only = λ fs y g.
               let (e, q) = send-one b own (figureOf s) piece (still 1 t) at-loop fresh fs y (subst (λ (x : Figure). Fires b own x fs y) (sym send-received) g) in
               (e, q ∙ shown);
         }
 
-  by-kind : (k : ℕ) → 1 ≤ k → k ≤ 3 → Taken s from r o d k p f → AsFigure s from r o d k p f (takenOf k p f s from r o d)
-  by-kind zero l h t = absurd (omega arith)
-  by-kind (suc zero) l h t = send-figured t
-  by-kind (suc (suc zero)) l h t = echo-figured t
-  by-kind (suc (suc (suc zero))) l h t = vote-figured t
-  by-kind (suc (suc (suc (suc k)))) l h t = absurd (omega arith)
+  by-kind : All Byte s → All Byte r → (k : ℕ) → 1 ≤ k → k ≤ 3 → Taken s from r o d k p f → AsFigure s from r o d k p f (takenOf k p f s from r o d)
+  by-kind hs hr zero l h t = absurd (omega arith)
+  by-kind hs hr (suc zero) l h t = send-figured t
+  by-kind hs hr (suc (suc zero)) l h t = echo-figured hs hr t
+  by-kind hs hr (suc (suc (suc zero))) l h t = vote-figured hs hr t
+  by-kind hs hr (suc (suc (suc (suc k)))) l h t = absurd (omega arith)
 
--- the theorem: an accepted step is figure 5
-pub step-is-figure : (s : List ℕ) (from : ℕ) (r o d : List ℕ) (k p f : ℕ) → planOf s from r o d ≡ Take k p f
+-- the theorem: an accepted step is figure 5, of a state and a record that are strings of bytes
+pub step-is-figure : (s : List ℕ) (from : ℕ) (r o d : List ℕ) → All Byte s → All Byte r → (k p f : ℕ) → planOf s from r o d ≡ Take k p f
     → AsFigure s from r o d k p f (stepOf s from r o d)
 unfolding stepOf byPlan
-step-is-figure s from r o d k p f e =
+step-is-figure s from r o d hs hr k p f e =
     let t = taken s from r o d k p f e in
     let (one, few) = kind-few k (whole r k p f (t .form) .kind-ok) in
-    rw e (by-kind s from r o d p f k one few t)
+    rw e (by-kind s from r o d p f hs hr k one few t)

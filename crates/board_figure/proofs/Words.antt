@@ -1,5 +1,5 @@
 -- An echo or a vote, once it is kept: what a step then does is what figure 5 fires; and what is put out and delivered, as events.
-use mathlib.Core.Path.{_≡_, refl, sym, subst, ap, _∙_}
+use mathlib.Core.Path.{_≡_, refl, sym, subst, _∙_}
 use Prim.Native.Nat.{ℕ, _+_, _-_, _*_, _/_, _≤_}
 use mathlib.Core.List.{List, [], _∷_, _++_, append-nil}
 use mathlib.Core.Bool.{Bool, true, false, not, _&&_, _||_}
@@ -13,7 +13,7 @@ use Rattle.octets.specs.Bytes.{pick, part, put}
 use Rattle.octets.proofs.Picks.{and-l, and-r, never}
 use Rattle.table.specs.Table.{kOf, mostOf, someOf}
 use Rattle.table.specs.declared.Table.{Table}
-use Rattle.table.proofs.Within.{Within, within}
+use Rattle.code.specs.Code.{All, Byte}
 use Rattle.record.specs.Form.{recordOf}
 use Rattle.state.specs.State.{viewOf, echoAt, voteAt}
 use Rattle.state.specs.Sound.{flagsOk, naming}
@@ -23,11 +23,11 @@ use Rattle.board.specs.Stepped.{recordRoot, recordPath, voteDue, won, enoughUsa
 use Rattle.deliver.specs.Delivered.{Left}
 use Rattle.board_step.specs.Step.{outcome, stepped, putOut, resultIn, delivered}
 use Rattle.board_step.proofs.Due.{usable-enough}
-use Rattle.board_figure.specs.Figure.{Piece, echo, vote, Event, sends, outputs, Figure, echoing, usables, voting, turned, outcomeFor, Still, Fires}
+use Rattle.board_figure.specs.Figure.{Piece, echo, vote, Event, sends, outputs, Figure, echoing, usables, voting, turned, Still, Fires}
 use Rattle.board_figure.specs.Shown.{figureIn, pieceOf, asRecord, sentBy, outputBy, answered}
 use Rattle.board_figure.proofs.Seen.{Heard, heard, echoing-seen, usables-seen, voting-seen}
 use Rattle.board_figure.proofs.Overdue.{still-of}
-use Rattle.board_figure.proofs.Results.{outcome-seen}
+use Rattle.board_figure.proofs.Results.{output-seen}
 use Rattle.board_figure.proofs.Reaching.{reaches}
 
 -- ---- what is put out and delivered, as events
@@ -37,11 +37,6 @@ voteIf c root = pick c (sends (vote root) ∷ []) []
 
 abbrev pub outputIf : Bool → Option (List ℕ) → List Event
 outputIf c result = pick c (outputs result ∷ []) []
-
-output-alike : (c : Bool) (x y : Option (List ℕ)) → (c ≡ true → x ≡ y) → outputIf c x ≡ outputIf c y
-unfolding pick
-output-alike true x y h = ap (λ (z : Option (List ℕ)). outputs z ∷ []) (h refl)
-output-alike false x y h = refl
 
 pub word-sent : (a c : Bool) (result : Option (List ℕ)) (p f : ℕ) (r : List ℕ) → sentBy (voteIf a (recordRoot r) ++ outputIf c result) ≡ putOut false a p f r
 unfolding pick putOut
@@ -88,9 +83,6 @@ output-voted m h = go (m .output) (m .voted) (and-l _ _ h)
 
 module _ (b : Table) (own : ℕ) (m : Marks) (s root : List ℕ) (f : Sounds (viewOf b (settledTo b true m s root) s)) (going : m .done ≡ false)
     (flags : m .output ≡ true → m .voted ≡ true) where
-  w : Within b
-  w = within b (f .lim)
-
   words-heard : Heard b m
   unfolding settledTo withFlags
   words-heard = heard b (settledTo b true m s root) s f
@@ -134,12 +126,13 @@ module _ (b : Table) (own : ℕ) (m : Marks) (s root : List ℕ) (f : Sounds (vi
     voteOf = x .voteOf;
   }
 
-  turns : Fires b own (turned x (m .voted) (m .output) false)
-      (voteIf (not (m .voted) && votedNow b true m s root) root ++ outputIf (endsNow b true m s root) (outcomeFor b x root))
+  turns : All Byte s → Fires b own (turned x (m .voted) (m .output) false)
+      (voteIf (not (m .voted) && votedNow b true m s root) root ++ outputIf (endsNow b true m s root) (resultIn b m s root))
       (turned x (votedNow b true m s root) (outputNow b true m s root) (endsNow b true m s root))
   unfolding votedNow outputNow endsNow voteDue won
-  turns =
-      reaches b own x root (won b m s root) (enoughUsable b m s root) (by-votes (mostOf b)) by-usables (m .voted) (m .output)
+  turns bytes =
+      reaches b own x root (won b m s root) (enoughUsable b m s root) (by-votes (mostOf b)) by-usables (resultIn b m s root)
+      (λ e. output-seen b m s (f .lim) words-heard bytes root (usable-enough b m s root e)) (m .voted) (m .output)
       (leb (mostOf b) (ones (naming (b .n) (m .echoes) (λ j. part (echoAt j) 32 s) root)))
       (leb (someOf b) (ones (naming (b .n) (m .votes) (λ j. part (voteAt j) 32 s) root))) flags by-echoes (by-votes (someOf b)) (won b m s root) (enoughUsable b m s root)
       refl refl (subst (Still b own) end-same (still-of b after s f own))
@@ -153,14 +146,9 @@ module _ (b : Table) (own : ℕ) (m : Marks) (s root : List ℕ) (f : Sounds (vi
   unfolding endsNow won
   ends-counts e = (by-votes (mostOf b) (and-l (won b m s root) (enoughUsable b m s root) (and-r (outputNow b true m s root) _ e)), by-usables (ends-enough e))
 
-  pub word-fires : Fires b own x (voteIf (not (m .voted) && votedNow b true m s root) root ++ outputIf (endsNow b true m s root) (resultIn b m s root)) (figureIn b after s)
-  word-fires =
-      let same : outputIf (endsNow b true m s root) (outcomeFor b x root) ≡ outputIf (endsNow b true m s root) (resultIn b m s root) =
-      output-alike (endsNow b true m s root) (outcomeFor b x root) (resultIn b m s root)
-      (λ e. outcome-seen b m s (f .lim) words-heard root (usable-enough b m s root (ends-enough e))) in
+  pub word-fires : All Byte s → Fires b own x (voteIf (not (m .voted) && votedNow b true m s root) root ++ outputIf (endsNow b true m s root) (resultIn b m s root)) (figureIn b after s)
+  word-fires bytes =
       subst (λ (i : Figure). Fires b own i (voteIf (not (m .voted) && votedNow b true m s root) root ++ outputIf (endsNow b true m s root) (resultIn b m s root)) (figureIn b after s))
       (sym start-same)
       (subst (λ (i : Figure). Fires b own (turned x (m .voted) (m .output) false)
-      (voteIf (not (m .voted) && votedNow b true m s root) root ++ outputIf (endsNow b true m s root) (resultIn b m s root)) i) (sym end-same)
-      (subst (λ (l : List Event). Fires b own (turned x (m .voted) (m .output) false) (voteIf (not (m .voted) && votedNow b true m s root) root ++ l)
-      (turned x (votedNow b true m s root) (outputNow b true m s root) (endsNow b true m s root))) same turns))
+      (voteIf (not (m .voted) && votedNow b true m s root) root ++ outputIf (endsNow b true m s root) (resultIn b m s root)) i) (sym end-same) (turns bytes))

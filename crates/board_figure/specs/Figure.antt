@@ -1,18 +1,23 @@
 -- Figure 5 of the broadcast paper (source document 000), "Receiving party P_j", as a definition of its own: what it has received, and its
 -- guarded branches. The quoted words are the figure's, in its order; document 01 departs from it in four places, marked "departure".
-use Prim.Native.Nat.{ℕ, suc, _≤_}
+use Prim.Native.Nat.{ℕ, suc, _≤_, _<_}
 use mathlib.Core.Path.{_≡_}
 use mathlib.Core.List.{List, [], _∷_, _++_}
 use mathlib.Core.Bool.{Bool, true, false, _&&_}
 use mathlib.Core.Option.{Option, none, some}
 use lib.Count.{ones}
 use lib.Dec.{eqb}
+use lib.ListN.{length, getD, take}
 use Rattle.octets.specs.Bytes.{pick, same}
 use Rattle.octets.specs.Sets.{setOf}
 use Rattle.table.specs.Table.{kOf, mostOf, someOf}
 use Rattle.table.specs.declared.Table.{Table}
 use Rattle.tree.specs.Check.{pathCorrect}
-use Rattle.deliver.specs.Delivered.{resultOf}
+use Rattle.tree.specs.Tree.{rootOf}
+use Rattle.code.specs.Block.{readable, blockMessage}
+use Rattle.code_encode.specs.Message.{fragmentFor}
+use Rattle.code_through.specs.Through.{marks}
+use Rattle.code_through.specs.Rebuild.{HasFragments}
 
 -- ---- what is sent and received
 
@@ -163,10 +168,29 @@ unfoldable pub echoFragment : Option Echo → List ℕ
 echoFragment none = []
 echoFragment (some e) = e .fragment
 
--- "reconstruct the message m' from the fragments {f_i}; compute the fragments (f'_1, .., f'_n) of message m'; build the Merkle tree ..
--- with root r'; if r = r' then output m' else output ⊥", from the k lowest-numbered; departure: "unequal lengths and unreadable blocks are void"
-unfoldable pub outcomeFor : Table → Figure → List ℕ → Option (List ℕ)
-outcomeFor b x r = resultOf b r (usables b x r) (λ i. echoFragment (x .echoOf i))
+-- "I ⊆ [n], |I| = n - 2t": of a set of parties "the k lowest-numbered ones" (document 01)
+abbrev pub lowest : Table → ℕ → List ℕ
+lowest b set = take (kOf b) (marks 1 (b .n) set)
+
+-- "compute the fragments (f'_1, .., f'_n) of message m'; build the Merkle tree .. with root r'": r', of the message m' in a block d
+abbrev pub rootAfresh : Table → List ℕ → List ℕ
+rootAfresh b d = rootOf (b .n) (fragmentFor b (blockMessage d))
+
+-- "reconstruct the message m' from the fragments {f_i}", i of I: m' is read from the block d that has those. What is output for r:
+pub data Output (b : Table) (r I : List ℕ) (f : ℕ → List ℕ) : Option (List ℕ) → Type 0 where
+  -- "if r = r' then output m'"
+  message : (len : ℕ) (d : List ℕ) → HasFragments (kOf b) len I f d → readable (kOf b) (b .longest) d ≡ true → rootAfresh b d ≡ r
+      → Output b r I f (some (blockMessage d))
+  -- "else output ⊥"
+  other-root : (len : ℕ) (d : List ℕ) → HasFragments (kOf b) len I f d → readable (kOf b) (b .longest) d ≡ true → (rootAfresh b d ≡ r → ⊥)
+      → Output b r I f none
+  -- departure: "unequal lengths and unreadable blocks are void"
+  unequal : (i j : ℕ) → i < length I → j < length I → (length (f (getD I i 0)) ≡ length (f (getD I j 0)) → ⊥) → Output b r I f none
+  unreadable : (len : ℕ) (d : List ℕ) → HasFragments (kOf b) len I f d → readable (kOf b) (b .longest) d ≡ false → Output b r I f none
+
+-- the same from the usable echoes for r
+abbrev pub OutputFor : Table → Figure → List ℕ → Option (List ℕ) → Type 0
+OutputFor b x r m = Output b r (lowest b (usables b x r)) (λ i. echoFragment (x .echoOf i)) m
 
 -- A branch of P_own that is enabled in x, what it sends or outputs, and where it leads: "wait until either: .. ⇒ .."
 pub data Branch (b : Table) (own : ℕ) (x : Figure) : List Event → Figure → Type 0 where
@@ -185,8 +209,8 @@ pub data Branch (b : Table) (own : ℕ) (x : Figure) : List Event → Figure →
       → Branch b own x [] (turned x (x .voted) true (x .done))
   -- "wait until: for some I ⊆ [n], {π_i, f_i}: |I| = n - 2t and for all i ∈ I: received (echo, r, π_i, f_i) from P_i and π_i is a correct
   -- validation path .. output .. done ← true"; r is the root with n - t votes: it keeps them, and no other has them (one-root, proofs/Counts)
-  delivers : (r : List ℕ) → At true x → mostOf b ≤ ones (voting b x r) → kOf b ≤ ones (usables b x r)
-      → Branch b own x (outputs (outcomeFor b x r) ∷ []) (turned x (x .voted) (x .output) true)
+  delivers : (r : List ℕ) (m : Option (List ℕ)) → At true x → mostOf b ≤ ones (voting b x r) → kOf b ≤ ones (usables b x r) → OutputFor b x r m
+      → Branch b own x (outputs m ∷ []) (turned x (x .voted) (x .output) true)
 
 -- no branch is enabled
 abbrev pub Still : Table → ℕ → Figure → Type 0

@@ -1,3 +1,4 @@
--- Figure 5, and what it says of a board's bytes. To be read: Figure, then Shown.
+-- Figure 5, and what it says of a board's bytes. To be read: Figure, then Shown, then History.
 pub mod Figure
 pub mod Shown
+pub mod History

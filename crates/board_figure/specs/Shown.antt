@@ -78,10 +78,13 @@ answered es s o d =
     outcome (stepped 0 (length w) (x .kind) (x .size)) s (put 0 w o) (x .buffer)
 
 -- An accepted step is figure 5: the record is received, then every branch that is enabled fires until none is; what is sent and output on the
--- way is the step's answer z and what it leaves in the buffers o and d; and whichever enabled branch goes first, it comes to the same.
+-- way is the step's answer z and what it leaves in the buffers o and d; table and own number stay; and whichever enabled branch goes first, it
+-- comes to the same.
 pub record AsFigure (s : List ℕ) (from : ℕ) (r o d : List ℕ) (k p f : ℕ) (z : Outcome) : Type 0 where
   pub events : List Event
   pub fires : Fires (tableOf s) (ownOf s) (receive (tableOf s) from (messageOf k p f r) (figureOf s)) events (figureOf (z .state))
   pub answer : z ≡ answered events (z .state) o d
+  pub table : tableOf (z .state) ≡ tableOf s
+  pub own : ownOf (z .state) ≡ ownOf s
   pub only : (es : List Event) (y : Figure) → Fires (tableOf s) (ownOf s) (receive (tableOf s) from (messageOf k p f r) (figureOf s)) es y
       → (es ≡ events) × (y ≡ figureOf (z .state))

@@ -6,5 +6,5 @@ use Rattle.record.specs.declared.Read.{Read}
 use Rattle.record.specs.declared.Read.the-variants.{Form, Fault}
 
 -- what was read of a record, as three numbers: a form of kind k, which is never 0; or, with k 0, why it is no record and where
-unfoldable pub readBy : ℕ → ℕ → ℕ → Read
-readBy k p f = pick (eqb k 0) (Fault p f) (Form k p f)
+unfoldable pub asRead : ℕ → ℕ → ℕ → Read
+asRead k p f = pick (eqb k 0) (Fault p f) (Form k p f)

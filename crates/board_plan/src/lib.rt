@@ -17,7 +17,7 @@ ghost use mathlib.Core.Path.{_≡_};
 ghost use mathlib.Core.Bool.{true};
 ghost use Rattle.table.specs.Table.{limits, isBoard};
 ghost use Rattle.board.specs.Planned.{isShort, isStray, isLate, byMarks, planBy, planOf};
-ghost use Rattle.board_plan.specs.Working.{readBy};
+ghost use Rattle.board_plan.specs.Working.{asRead};
 
 // Whether it is a send from a board other than S.
 fn stray(b: Table, from: usize, kind: u8) -> bool
@@ -85,7 +85,7 @@ fn plan_by(
     nodes: usize,
     len: usize,
 ) -> Plan
-    ensures { λ x. ⌜ x ≡ planBy (now (s .entry)) from out delivery (readBy kind nodes len) ⌝ }
+    ensures { λ x. ⌜ x ≡ planBy (now (s .entry)) from out delivery (asRead kind nodes len) ⌝ }
 {
     if s.len() < FIXED_BYTES {
         return Plan::Refuse { number: 2 };

@@ -6,14 +6,15 @@ use mathlib.Core.List.{List}
 use Prim.Native.Nat.{ℕ, _+_, _-_, _*_, _≤_}
 use native.Mathlib.Nat as N
 use native.Mathlib.Omega.{arith}
-use borrow.Author.Tests.{le-leb}
+use borrow.Author.Tests.{le-leb, le-ltb}
 use lib.Dec.{leb}
 use lib.ListN.{length}
-use Rattle.octets.specs.Bytes.{pick, part}
+use Rattle.octets.specs.Bytes.{pick, part, put}
 use Rattle.octets.proofs.Picks.{and-on}
-use Rattle.table.specs.Table.{limits, kOf, sMax}
+use Rattle.octets.proofs.Puts.{part-put}
+use Rattle.table.specs.Table.{limits, isBoard, kOf, sMax}
 use Rattle.table.specs.declared.Table.{Table}
-use Rattle.table.proofs.Within.{within, k-pos, sMax-le}
+use Rattle.table.proofs.Within.{within, k-pos, sMax-le, board-number}
 use Rattle.code.specs.Block.{rows}
 use Rattle.code_encode.specs.Message.{fragmentFor}
 use Rattle.code_encode.proofs.Patches.{some-row}
@@ -24,7 +25,7 @@ use Rattle.tree.proofs.Checks.{root-length, path-length, depth-small, own-path}
 use Rattle.record.specs.Form.{outBytes, parse, isKind, nodesMost, fragmentOk, recordOf}
 use Rattle.record.specs.declared.Read.the-variants.{Form}
 use Rattle.record.proofs.Round.{read-back}
-use Rattle.board_send.specs.Sent.{sendRecord, SendOut, sendOut, sendOf}
+use Rattle.board_send.specs.Sent.{sendRefusal, sendRecord, SendOut, sendOut, sendBy, sendOf}
 use Rattle.octets.specs.declared.Sized.{Sized}
 use Rattle.record.proofs.Sections.{record-length, record-root, record-path, record-fragment}
 
@@ -97,3 +98,27 @@ pub send-one : (b : Table) (message : List ℕ) (to : ℕ) (out : List ℕ) (x y
 send-one b message to out x y o r e f =
     let g : sendOut x o ≡ sendOut y r = e ∙ sym f in
     (ap (λ (s : SendOut). s .answer) g, ap (λ (s : SendOut). s .out) g)
+
+-- the sender's call, where nothing is refused: its record stands at the front of the buffer
+module _ (b : Table) (message : List ℕ) (to : ℕ) (out : List ℕ)
+    (limited : limits b ≡ true) (fits : length message ≤ b .longest) (board : isBoard b to ≡ true) (room : outBytes ≤ length out) where
+  none-refused : sendRefusal b message to out ≡ 0
+  unfolding sendRefusal pick
+  none-refused = rw (limited, le-ltb (length out) outBytes room, board, le-ltb (b .longest) (length message) fits)
+
+  pub record Sending (x : Sized) (new : List ℕ) : Type 0 where
+    pub record-front : part 0 (x .length) new ≡ sendRecord b message to
+    pub most : x .length ≤ outBytes
+
+  pub sent-front : (x : Sized) (new : List ℕ) → sendOut x new ≡ sendOf b message to out → Sending x new
+  unfolding sendOf sendBy
+  sent-front x new e =
+      let z = e ∙ ap (λ (q : ℕ). sendBy q b message to out) none-refused in
+      let (one, few) = board-number b to board in
+      let f = send-form b message to limited one few fits in
+      let l : x .length ≡ length (sendRecord b message to) = ap (λ w. w .answer .length) z in
+      let n : new ≡ put 0 (sendRecord b message to) out = ap (λ w. w .out) z in
+      record {
+        record-front = rw (n, l) (part-put 0 (length (sendRecord b message to)) (sendRecord b message to) out refl (omega (arith, f .most)));
+        most = omega (arith, f .most);
+      }

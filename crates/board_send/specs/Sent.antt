@@ -34,6 +34,7 @@ pub record SendOut : Type 0 where
   pub answer : Sized
   pub out : List ℕ
 
+-- the answer and the buffer, as one
 abbrev pub sendOut : Sized → List ℕ → SendOut
 sendOut x o = record { answer = x; out = o }
 
@@ -42,5 +43,6 @@ unfoldable pub sendBy : ℕ → Table → List ℕ → ℕ → List ℕ → Send
 sendBy (suc q) b message to out = sendOut (sized (suc q) 0) out
 sendBy zero b message to out = sendOut (sized 0 (length (sendRecord b message to))) (put 0 (sendRecord b message to) out)
 
+-- "Sender: 1, 2, 4, 13": the call, whole
 unfoldable pub sendOf : Table → List ℕ → ℕ → List ℕ → SendOut
 sendOf b message to out = sendBy (sendRefusal b message to out) b message to out

@@ -3,12 +3,14 @@ use mathlib.Core.Path.{_≡_, refl, sym, ap, _∙_}
 use Prim.Native.Nat.{ℕ, _-_, _≤_}
 use mathlib.Core.List.{List, []}
 use mathlib.Core.Bool.{Bool, true, false, not, _&&_}
+use mathlib.Core.Option.{Option, none, some}
 use native.Mathlib.Omega.{arith}
 use borrow.Author.Tests.{eqb-true}
 use lib.Dec.{eqb}
 use lib.ListN.{length}
 use Rattle.octets.specs.Bytes.{pick, part, put}
 use Rattle.octets.proofs.Frame.{part-in}
+use Rattle.octets.proofs.Laws.{length-put}
 use Rattle.octets.proofs.Picks.{and-l}
 use Rattle.table.specs.Table.{sMax}
 use Rattle.table.specs.declared.Table.{Table}
@@ -16,7 +18,7 @@ use Rattle.record.specs.Form.{outBytes, isKind, nodesMost, fragmentOk, parse, r
 use Rattle.record.specs.declared.Read.the-variants.{Form}
 use Rattle.record.proofs.Facts.{whole}
 use Rattle.record.proofs.Round.{read-back, vote-length}
-use Rattle.state.specs.State.{view, tableOf, marksOf}
+use Rattle.state.specs.State.{view, tableOf, ownOf, marksOf}
 use Rattle.state.specs.Sound.{sound}
 use Rattle.state.specs.declared.Marks.{Marks}
 use Rattle.board.specs.declared.Plan.{Plan}
@@ -25,10 +27,12 @@ use Rattle.board.specs.Planned.{planOf}
 use Rattle.board.specs.Started.{begun, startOf}
 use Rattle.board.specs.Stepped.{recordRoot, recordPath, recordFragment, marked, kept, votedNow}
 use Rattle.board.proofs.Taken.{Taken, taken, listed}
+use Rattle.board.proofs.KeptLaws.{left-table, left-own, left-length}
 use Rattle.board.proofs.StepSound.{step-sound}
+use Rattle.deliver.specs.Delivered.{leftBy}
 use Rattle.board_step.specs.declared.Stepped.{Stepped}
 use Rattle.board_step.specs.Asked.{Formed}
-use Rattle.board_step.specs.Step.{outcome, refused, good, putOut, saidBy, takenOf, byPlan, stepOf}
+use Rattle.board_step.specs.Step.{outcome, refused, good, putOut, delivered, saidBy, takenOf, byPlan, stepOf}
 use Rattle.board_step.proofs.Records.{root-length, path-length, fragment-length, echo-length}
 use Rattle.board_step.proofs.Taking.{formed}
 
@@ -59,6 +63,42 @@ module _ (s : List ℕ) (from : ℕ) (r o d : List ℕ) where
   pub step-leaves-sound : stepOf s from r o d .answer .number ≡ 0 → sound (view (stepOf s from r o d .state)) ≡ true
   unfolding stepOf
   step-leaves-sound = sound-by (planOf s from r o d) refl
+
+-- ---- table, own number, lengths and soundness stay
+
+delivered-length : (e : Bool) (x : Option (List ℕ)) (d : List ℕ) → length (delivered e x d .buffer) ≡ length d
+unfolding delivered leftBy pick
+delivered-length false x d = refl
+delivered-length true none d = refl
+delivered-length true (some m) d = length-put 0 m d
+
+-- what a step leaves in the buffers s, o and d
+pub record Stays (s o d s2 o2 d2 : List ℕ) : Type 0 where
+  pub table : tableOf s2 ≡ tableOf s
+  pub own : ownOf s2 ≡ ownOf s
+  pub size : length s2 ≡ length s
+  pub out : length o2 ≡ length o
+  pub delivery : length d2 ≡ length d
+  pub still-sound : sound (view s2) ≡ true
+
+module _ (s : List ℕ) (from : ℕ) (r o d : List ℕ) (so : sound (view s) ≡ true) where
+  stays-by : (x : Plan) → planOf s from r o d ≡ x → Stays s o d (byPlan x s from r o d .state) (byPlan x s from r o d .out) (byPlan x s from r o d .delivery)
+  unfolding byPlan takenOf saidBy
+  stays-by (Refuse q) e = record { table = refl; own = refl; size = refl; out = refl; delivery = refl; still-sound = so }
+  stays-by (Take k p f) e =
+      let ok = good k p f from r s in
+      record {
+        table = left-table ok k p f from r s;
+        own = left-own ok k p f from r s;
+        size = left-length ok k p f from r s;
+        out = length-put 0 _ o;
+        delivery = delivered-length _ _ d;
+        still-sound = step-sound s from r o d ok k p f e;
+      }
+
+  pub stays : Stays s o d (stepOf s from r o d .state) (stepOf s from r o d .out) (stepOf s from r o d .delivery)
+  unfolding stepOf
+  stays = stays-by (planOf s from r o d) refl
 
 -- the promise of a start fixes its answer and the state
 pub start-one : (b : Table) (own : ℕ) (s : List ℕ) (x y : ℕ) (sx sy : List ℕ) → begun x sx ≡ startOf b own s → begun y sy ≡ startOf b own s → (x ≡ y) × (sx ≡ sy)

@@ -22,10 +22,10 @@ use Rattle.state.specs.State.{fixedBytes, State, view, tableOf, marksOf, marksB
 use Rattle.state.specs.Sound.{usableOk, lengthOk, boardOk, naming}
 use Rattle.state.specs.declared.Marks.{Marks}
 use Rattle.state.proofs.Facts.{sound-limits}
-use Rattle.state.proofs.Writes.{table-kept, rest-kept, fragment-kept, marks-back}
+use Rattle.state.proofs.Writes.{rest-kept, fragment-kept, marks-back}
 use Rattle.board.specs.Stepped.{recordRoot, marked, kept, won, enoughUsable, votedNow, outputNow, endsNow, withFlags, settledTo, leaves, KeptRoom}
 use Rattle.board.proofs.Taken.{Taken, not-done, fragment-room}
-use Rattle.board.proofs.KeptLaws.{kept-length, kept-table}
+use Rattle.board.proofs.KeptLaws.{kept-length, left-table}
 use Rattle.board.proofs.StepSound.{fit, settled-sounds}
 use Rattle.deliver.specs.declared.Delivered.{Delivered}
 use Rattle.deliver.specs.Delivered.{left, resultOf}
@@ -191,10 +191,6 @@ module _ (s : List ℕ) (from : ℕ) (r o d : List ℕ) (k p f : ℕ) (t : Taken
   unfolding settledTo withFlags
   same-usable = refl
 
-  table-left : tableOf (leaves ok k p f from r s) ≡ tableOf s
-  unfolding leaves
-  table-left = table-kept after bytes ∙ kept-table (sMax (tableOf s)) k (from - 1) p f r s
-
   marks-left : marksOf (leaves ok k p f from r s) ≡ after
   unfolding leaves
   marks-left = marks-back after bytes (long-still s from r o d k p f t) (fit (tableOf s) after bytes (settled-sounds s from r o d ok k p f t))
@@ -204,7 +200,7 @@ module _ (s : List ℕ) (from : ℕ) (r o d : List ℕ) (k p f : ℕ) (t : Taken
       → (fixedBytes ≤ length s2) × Deliverable (tableOf s2) (marksOf s2) s2 r d (marksOf s2 .done)
   unfolding leaves
   done-asks s2 e =
-      rw (e, marks-left, table-left) (
+      rw (e, marks-left, left-table ok k p f from r s) (
         rw (length-put 6 (marksBytes after) bytes) (long-still s from r o d k p f t),
         deliverable-still (tableOf s) before after bytes same-usable r d (after .done) (deliverable s from r o d k p f t ok),
       )
@@ -217,7 +213,7 @@ module _ (s : List ℕ) (from : ℕ) (r o d : List ℕ) (k p f : ℕ) (t : Taken
       let e1 : marksOf s2 .done ≡ endsNow (tableOf s) (not (eqb k 1)) before bytes (recordRoot r)
       = rw (es, marks-left) (done-now k (from - 1) ok (marksOf s) (not-done t) (tableOf s) (not (eqb k 1)) bytes (recordRoot r)) in
       let e2 : resultIn (tableOf s2) (marksOf s2) s2 (recordRoot r) ≡ resultIn (tableOf s) before bytes (recordRoot r)
-      = rw (es, marks-left, table-left) (result-still (tableOf s) before after bytes same-usable (recordRoot r)) in
+      = rw (es, marks-left, left-table ok k p f from r s) (result-still (tableOf s) before after bytes same-usable (recordRoot r)) in
       ex ∙ rw (e2, e1)
 
   -- what the functions leave, one after the other, is what the definition says

@@ -32,6 +32,7 @@ pub record Outcome : Type 0 where
   pub out : List ℕ
   pub delivery : List ℕ
 
+-- the answer and the three buffers, as one
 abbrev pub outcome : Stepped → List ℕ → List ℕ → List ℕ → Outcome
 outcome answer s o d = record { answer = answer; state = s; out = o; delivery = d }
 
@@ -89,6 +90,7 @@ takenOf k p f s from r o d =
     let x = delivered (endsNow b (not (eqb k 1)) m s1 (recordRoot r)) (resultIn b m s1 (recordRoot r)) d in
     outcome (stepped 0 (length w) (x .kind) (x .size)) (leaves yes k p f from r s) (put 0 w o) (x .buffer)
 
+-- refused, or taken
 unfoldable pub byPlan : Plan → List ℕ → ℕ → List ℕ → List ℕ → List ℕ → Outcome
 byPlan (Refuse q) s from r o d = refused q s o d
 byPlan (Take k p f) s from r o d = takenOf k p f s from r o d

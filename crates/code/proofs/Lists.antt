@@ -6,10 +6,11 @@ use mathlib.Core.Bool.{true, false}
 use mathlib.Core.List.{List, [], _∷_, _++_, map}
 use Prim.Native.Nat.{ℕ, zero, suc, _+_, _*_, _-_, min, _<_, _≤_}
 use native.Mathlib.Omega.{arith}
-use lib.ListN.{length, getD, take, drop, length-take}
+use lib.ListN.{length, getD, set, take, drop, length-take}
 use lib.Seq.{getD-take, drop-at, take-at, length-take-le}
 use borrow.Rule.Slice.PartMut.{putMid, postOf}
-use Rattle.code.specs.Code.{All, Apart}
+use Rattle.octets.specs.Bytes.{part, put, two}
+use Rattle.code.specs.Code.{All, Byte, Apart}
 use Rattle.code.proofs.Polynomials.{Distinct}
 
 pub false≢true : false ≡ true → ⊥
@@ -79,3 +80,27 @@ all-at P (x ∷ l) h (suc i) b = all-at P l (h .1) i (omega arith)
 pub all-append : (P : ℕ → Type 0) (l m : List ℕ) → All P l → All P m → All P (l ++ m)
 all-append P [] m h g = g
 all-append P (x ∷ l) m h g = (h .0, all-append P l m (h .1) g)
+
+-- of a list with another put in
+all-set : (P : ℕ → Type 0) (l : List ℕ) (i x : ℕ) → P x → All P l → All P (set l i x)
+all-set P [] i x p h = tt
+all-set P (y ∷ l) zero x p h = (p, h .1)
+all-set P (y ∷ l) (suc i) x p h = (h .0, all-set P l i x p (h .1))
+
+pub all-put : (P : ℕ → Type 0) (v l : List ℕ) (i : ℕ) → All P v → All P l → All P (put i v l)
+unfolding put
+all-put P [] l i g h = h
+all-put P (x ∷ v) l i g h = all-put P v (set l i x) (suc i) (g .1) (all-set P l i x (g .0) h)
+
+-- bytes (a list reads as 0 past its end)
+pub byte-at : (s : List ℕ) → All Byte s → (i : ℕ) → getD s i 0 < 256
+byte-at [] h i = omega arith
+byte-at (x ∷ s) h zero = h .0
+byte-at (x ∷ s) h (suc i) = byte-at s (h .1) i
+
+pub part-bytes : (a n : ℕ) (s : List ℕ) → All Byte s → All Byte (part a n s)
+unfolding part
+part-bytes a n s h = all-take Byte n (drop a s) (all-drop Byte a s h)
+
+pub two-bytes : (n : ℕ) → All Byte (two n)
+two-bytes n = (omega arith, (omega arith, tt))

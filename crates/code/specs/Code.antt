@@ -12,6 +12,7 @@ abbrev pub All : {A : Type 0} → (A → Type 0) → List A → Type 0
 All P [] = Unit {0}
 All P (x ∷ xs) = P x × All P xs
 
+-- a byte, which is an element of the field
 abbrev pub Byte : ℕ → Type 0
 Byte b = b < 256
 

@@ -1,6 +1,6 @@
 -- What a promise fixes is one thing only: one theorem for each call.
 -- Assumes nothing.
-use mathlib.Core.Path.{_≡_, refl, sym, _∙_}
+use mathlib.Core.Path.{_≡_, refl, sym, ap, _∙_}
 use mathlib.Core.Bool.{Bool}
 use mathlib.Core.Logic.{⊎-elim}
 use mathlib.Core.List.{List}
@@ -12,9 +12,9 @@ use Rattle.table.proofs.Within.{within, k-pos}
 use Rattle.tree.specs.Check.{pathCorrect}
 use Rattle.code_through.proofs.OneAnswer.{agrees-decided}
 use Rattle.code_calls.specs.Hashing.{hashOf}
-use Rattle.code_calls.specs.Encoding.{Encoded, encodeOf}
+use Rattle.code_calls.specs.Encoding.{encoded, encodeOf}
 use Rattle.code_calls.specs.Rebuilding.{commonLength, rebuildRefusal, Rebuilds}
-use Rattle.code_calls.specs.Reading.{ReadOut, readOf}
+use Rattle.code_calls.specs.Reading.{readOut, readOf}
 use Rattle.octets.specs.declared.Sized.{Sized}
 use Rattle.code_calls.specs.declared.Digest.{Digest}
 use Rattle.code_calls.proofs.Taken.{rebuild-taken}
@@ -25,12 +25,16 @@ hash-one m r r' e e' = e ∙ sym e'
 pub path-one : (n i : ℕ) (root path fragment : List ℕ) (r r' : Bool) → r ≡ pathCorrect n i root path fragment → r' ≡ pathCorrect n i root path fragment → r ≡ r'
 path-one n i root path fragment r r' e e' = e ∙ sym e'
 
-pub encode-one : (b : Table) (message area root paths : List ℕ) (x x' : Encoded) → x ≡ encodeOf b message area root paths
-    → x' ≡ encodeOf b message area root paths → x ≡ x'
-encode-one b message area root paths x x' e e' = e ∙ sym e'
+pub encode-one : (b : Table) (message area root paths : List ℕ) (x y : Sized) (ax rx px ay ry py : List ℕ)
+    → encoded x ax rx px ≡ encodeOf b message area root paths → encoded y ay ry py ≡ encodeOf b message area root paths
+    → (x ≡ y) × (ax ≡ ay) × (rx ≡ ry) × (px ≡ py)
+encode-one b message area root paths x y ax rx px ay ry py e g =
+    let z = e ∙ sym g in
+    (ap (λ w. w .answer) z, ap (λ w. w .area) z, ap (λ w. w .root) z, ap (λ w. w .paths) z)
 
-pub read-one : (b : Table) (given message : List ℕ) (x x' : ReadOut) → x ≡ readOf b given message → x' ≡ readOf b given message → x ≡ x'
-read-one b given message x x' e e' = e ∙ sym e'
+pub read-one : (b : Table) (given message : List ℕ) (x y : Sized) (mx my : List ℕ)
+    → readOut x mx ≡ readOf b given message → readOut y my ≡ readOf b given message → (x ≡ y) × (mx ≡ my)
+read-one b given message x y mx my e g = let z = e ∙ sym g in (ap (λ w. w .answer) z, ap (λ w. w .message) z)
 
 -- the area is bytes, and one block at most agrees with it
 pub rebuild-one : (b : Table) (marked : ℕ) (lengths area out : List ℕ) → ((p : ℕ) → getD area p 0 < 256) → (r r' : Sized) (new new' : List ℕ)

@@ -7,11 +7,11 @@ use Prim.Native.Nat.{ℕ, zero, suc, _+_, _-_, _*_, _/_, _^_, _<_, _≤_}
 use native.Mathlib.Nat as N
 use native.Mathlib.Nat.{mul-le-mul}
 use native.Mathlib.Omega.{arith}
-use borrow.Author.Tests.{leb-true, ltb-false, eqb-true}
+use borrow.Author.Tests.{le-ltb, leb-true, ltb-false, eqb-true}
 use lib.Count.{ones}
 use lib.Dec.{eqb, leb, ltb}
 use lib.ListN.{length}
-use Rattle.octets.specs.Bytes.{part, put, placeEach, fourAt}
+use Rattle.octets.specs.Bytes.{pick, part, put, placeEach, fourAt}
 use Rattle.octets.specs.Sets.{has}
 use Rattle.octets.proofs.Picks.{none-applies, not-none, or-none-l, or-none-r}
 use Rattle.table.specs.Table.{limits, kOf, sMax}
@@ -103,6 +103,21 @@ module _ (b : Table) (message area root paths : List ℕ) where
         fits = ltb-false _ _ e3;
       }
 
+  -- the way back: with these no refusal applies
+  pub encode-takes : EncodeTaken b message area root paths → encodeRefusal b message area root paths ≡ 0
+  unfolding encodeRefusal pick
+  encode-takes t =
+      rw (t .limited, le-ltb _ _ (t .area-room), le-ltb _ _ (t .root-room), le-ltb _ _ (t .paths-room), le-ltb _ _ (t .fits))
+
+  -- an answer 0 is no refusal
+  pub encode-accepted : encodeOf b message area root paths .answer .number ≡ 0 → encodeRefusal b message area root paths ≡ 0
+  unfolding encodeOf encodeBy
+  encode-accepted = by (encodeRefusal b message area root paths)
+    where
+      by : (q : ℕ) → encodeBy q b message area root paths .answer .number ≡ 0 → q ≡ 0
+      by zero e = refl
+      by (suc q) e = e
+
   pub encode-refused : (q : ℕ) → (q ≡ 0 → ⊥) → q ≡ encodeRefusal b message area root paths
       → encoded (sized q 0) area root paths ≡ encodeOf b message area root paths
   unfolding encodeOf encodeBy
@@ -125,6 +140,15 @@ module _ (b : Table) (message area root paths : List ℕ) where
         ∙ place-part (sMax b) f area (λ j. N.le-trans (N.le-of-eq (len (suc j))) (rows-most b (length message) pos (t .fits))) (b .n) i 0
         (rows (kOf b) (length message)) h (N.le-of-eq (N.zero-add (rows (kOf b) (length message)) ∙ sym (len (suc i)))) (t .area-room)
         ∙ part-all (rows (kOf b) (length message)) (f i) (len (suc i))
+
+    -- what the call answers, and where a fragment stands after it
+    pub encode-length : encodeOf b message area root paths .answer ≡ sized 0 (rows (kOf b) (length message))
+    unfolding encodeOf encodeBy
+    encode-length = rw none
+
+    pub encode-fragment : (i : ℕ) → i < b .n → part (i * sMax b) (rows (kOf b) (length message)) (encodeOf b message area root paths .area) ≡ fragmentFor b message i
+    unfolding encodeOf encodeBy whole leafAt
+    encode-fragment i h = rw none (stands i h)
 
     pub encode-done : (len : ℕ) (area1 root1 paths1 : List ℕ) → len ≡ rows (kOf b) (length message)
         → area1 ≡ placeEach (b .n) (sMax b) (λ i. fragmentOf (kOf b) (block (kOf b) message) (suc i)) area

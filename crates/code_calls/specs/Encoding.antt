@@ -27,9 +27,11 @@ pub record Encoded : Type 0 where
   pub root : List ℕ
   pub paths : List ℕ
 
+-- the answer and the three buffers, as one
 abbrev pub encoded : Sized → List ℕ → List ℕ → List ℕ → Encoded
 encoded x a r p = record { answer = x; area = a; root = r; paths = p }
 
+-- refused and nothing written, or fragments, root and paths written
 unfoldable pub encodeBy : ℕ → Table → List ℕ → List ℕ → List ℕ → List ℕ → Encoded
 encodeBy (suc q) b message area root paths = encoded (sized (suc q) 0) area root paths
 encodeBy zero b message area root paths =
@@ -37,5 +39,6 @@ encodeBy zero b message area root paths =
     (put 0 (rootOf (b .n) (fragmentFor b message)) root)
     (placeEach (b .n) 192 (λ i. flat (pathOf (b .n) (fragmentFor b message) i)) paths)
 
+-- "Encoding (fragments, root, paths): 1, 2, 13": the call, whole
 unfoldable pub encodeOf : Table → List ℕ → List ℕ → List ℕ → List ℕ → Encoded
 encodeOf b message area root paths = encodeBy (encodeRefusal b message area root paths) b message area root paths

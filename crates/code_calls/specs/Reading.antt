@@ -23,12 +23,15 @@ pub record ReadOut : Type 0 where
   pub answer : Sized
   pub message : List ℕ
 
+-- the answer and the buffer, as one
 abbrev pub readOut : Sized → List ℕ → ReadOut
 readOut x m = record { answer = x; message = m }
 
+-- refused and nothing written, or the message written
 unfoldable pub readBy : ℕ → List ℕ → List ℕ → ReadOut
 readBy (suc q) given message = readOut (sized (suc q) 0) message
 readBy zero given message = readOut (sized 0 (length (blockMessage given))) (put 0 (blockMessage given) message)
 
+-- "Reading a block: 1, 2, 12": the call, whole
 unfoldable pub readOf : Table → List ℕ → List ℕ → ReadOut
 readOf b given message = readBy (readRefusal b given message) given message

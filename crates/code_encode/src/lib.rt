@@ -2,7 +2,7 @@
 // between the bits: once for all boards.
 use code::block_byte;
 use code::row_count;
-use field::product;
+use field::Element;
 ghost use mathlib.Core.Path.{_≡_};
 ghost use mathlib.Core.List.{_++_};
 ghost use Prim.Native.Nat.{ℕ, suc, _+_, _-_, _*_, _/_, _%_, _^_, _<_, _≤_};
@@ -23,7 +23,7 @@ fn add_in(area: &mut [u8], from: usize, n: usize, src: &[u8])
 {
     let mut d = 0;
     while d < n {
-        area[from + d] = area[from + d] ^ src[d];
+        area[from + d] = Element(area[from + d]).add(Element(src[d])).0;
         d += 1;
     }
 }
@@ -153,7 +153,7 @@ fn raise_powers(powers: &mut [u8], first: usize, count: usize)
 {
     let mut i = 0;
     while i < count {
-        powers[i] = product((first + i + 1) as u8, powers[i]);
+        powers[i] = Element((first + i + 1) as u8).product(Element(powers[i])).0;
         i += 1;
     }
 }

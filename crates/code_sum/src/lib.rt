@@ -1,5 +1,5 @@
 // Weighed sums of fragments: bytes of the fragments at some points, each times its weight, added up, many bytes at a time.
-use field::fold;
+use field::Element;
 use octets::clear_at;
 use octets::copy_part;
 ghost use mathlib.Core.Path.{_≡_};
@@ -17,7 +17,7 @@ fn accumulate(sum: &mut [u8], src: &[u8], from: usize, n: usize, w: u8)
 {
     let mut c = 0;
     while c < n {
-        sum[c] = fold(sum[c], w, src[from + c]);
+        sum[c] = Element(sum[c]).fold(Element(w), Element(src[from + c])).0;
         c += 1;
     }
 }
@@ -51,7 +51,7 @@ fn add_part(sum: &mut [u8], src: &[u8], from: usize, n: usize)
 {
     let mut i = 0;
     while i < n {
-        sum[i] = sum[i] ^ src[from + i];
+        sum[i] = Element(sum[i]).add(Element(src[from + i])).0;
         i += 1;
     }
 }

@@ -10,22 +10,21 @@ use lib.Count.{ones}
 use lib.ListN.{length, getD, take, drop, length-append, length-take, length-drop, length-map, List·getD-eq-default}
 use lib.Seq.{drop-at, take-all, drop-append-le, take-append-le, getD-take, ext-getD}
 use Rattle.octets.specs.Bytes.{part}
+use Rattle.octets.proofs.Laws.{length-part}
 use Rattle.octets.proofs.Walk.{lt-or-le}
 use Rattle.field.specs.Field.{add, mul}
 use Rattle.field.specs.Tables.{inverse}
 use Rattle.code.specs.Code.{All, Byte, Apart, value, row, fragmentOf}
 use Rattle.code.proofs.Polynomials as P
 use Rattle.code.proofs.Editions.{bytes, values-eval}
-use Rattle.code.proofs.Lists.{all-of, distinct-of, getD-map, map-at}
-use Rattle.code_through.specs.Rebuild.{Agrees}
+use Rattle.code.proofs.Lists.{all-of, distinct-of, getD-map, map-at, at-map}
+use Rattle.code_through.specs.Rebuild.{Agrees, HasFragments}
 use Rattle.code_through.specs.Through.{marks, attach, slopes, through, fragmentInArea, blockThrough}
-use Rattle.code_sum.specs.Sums.{cell}
-use Rattle.code_through.specs.Fits.{Fit}
 use Rattle.octets.proofs.Parts.{getD-part}
 use Rattle.code.proofs.Lists.{all-append}
-use Rattle.code_through.proofs.Marks.{between, apart-marks, length-marks, marks-have}
+use Rattle.code_through.proofs.Marks.{between, apart-marks, length-marks, marks-have, marks-find}
 use Rattle.code_through.proofs.Rows.{row-ends, length-row, bytes-row, same-cells}
-use Rattle.code_through.proofs.Agree.{fragment-at, bytes-marks, bytes-first, apart-first, length-first, fit-agrees}
+use Rattle.code_through.proofs.Agree.{length-fragment, fragment-at, boards, bytes-marks, bytes-first, apart-first, length-first}
 
 -- ---- the polynomial
 
@@ -136,6 +135,31 @@ module _ (xs : List ℕ) (fragment : ℕ → List ℕ) where
           (map-at (value (row (length xs) b c)) (λ x. getD (fragment x) c 0) xs
           (λ i h. sym (fragment-at (length xs) len pos b size (getD xs i 0) c g) ∙ ap (λ (l : List ℕ). getD l c 0) (f i h)))
 
+  -- the block through fragments of one length has them: it agrees with exactly those
+  pub through-rebuilds : (len : ℕ) → 0 < length xs → Apart xs → All Byte xs → ((x d : ℕ) → getD (fragment x) d 0 < 256)
+      → ((i : ℕ) → i < length xs → length (fragment (getD xs i 0)) ≡ len) → HasFragments (length xs) len xs fragment (blockThrough len xs fragment)
+  through-rebuilds len pos a hx small even = record {
+    size = size;
+    bytes = bytes-block-through len small;
+    same = λ i h.
+        let x = getD xs i 0 in
+        let l = length-fragment (length xs) len pos (blockThrough len xs fragment) size x in
+        ext-getD 0 (fragmentOf (length xs) (blockThrough len xs fragment) x) (fragment x) (l ∙ sym (even i h)) (λ c g. at i h c (omega arith));
+  }
+    where
+      size : length (blockThrough len xs fragment) ≡ len * length xs
+      size = length-block-through len
+
+      at : (i : ℕ) → i < length xs → (c : ℕ) → c < len → getD (fragmentOf (length xs) (blockThrough len xs fragment) (getD xs i 0)) c 0 ≡ getD (fragment (getD xs i 0)) c 0
+      at i h c g =
+          fragment-at (length xs) len pos (blockThrough len xs fragment) size (getD xs i 0) c g
+          ∙ ap (λ (r : List ℕ). value r (getD xs i 0)) (row-block-through len c g)
+          ∙ at-map (value (through xs (column c))) (λ x. getD (fragment x) c 0) xs (through-takes xs (column c) (length-column c) a hx (bytes-column c small)) i h
+
+  -- and no other does
+  pub rebuilds-through : (len : ℕ) (b : List ℕ) → 0 < length xs → Apart xs → All Byte xs → HasFragments (length xs) len xs fragment b → blockThrough len xs fragment ≡ b
+  rebuilds-through len b pos a hx g = block-through len b pos a hx (g .size) (g .bytes) (g .same)
+
 -- ---- the marked fragments of an area
 
 module _ (n k s len marked : ℕ) (area : List ℕ) (pos : 0 < k) (few : n ≤ 64) (below : marked / 2 ^ n ≡ 0) where
@@ -146,27 +170,30 @@ module _ (n k s len marked : ℕ) (area : List ℕ) (pos : 0 < k) (few : n ≤ 6
       (λ l. subst (λ (v : ℕ). v < 256) (sym (List·getD-eq-default (fragmentInArea s len area x) 0 (omega (arith, length-take len (drop ((x - 1) * s) area))))) (omega arith))
       (lt-or-le d len)
 
-  -- the fragments of a block that agrees are those in the area
-  agrees-in : (b : List ℕ) → Agrees n k s len marked area b → (j : ℕ) → j < length (marks 1 n marked)
-      → fragmentOf k b (getD (marks 1 n marked) j 0) ≡ fragmentInArea s len area (getD (marks 1 n marked) j 0)
+  -- a block agrees exactly if it has the marked fragments in the area
+  pub agrees-rebuilds : (b : List ℕ) → Agrees n k s len marked area b → HasFragments k len (marks 1 n marked) (fragmentInArea s len area) b
   unfolding fragmentInArea
-  agrees-in b a j h =
-      let x = getD (marks 1 n marked) j 0 in
-      let w = between 1 n marked j h in
-      let e : x ≡ suc (x - 1) = omega arith in
-      ap (fragmentOf k b) e ∙ a .same (x - 1) (omega arith) (marks-have 1 n marked j h)
+  agrees-rebuilds b a = record {
+    size = a .size;
+    bytes = a .bytes;
+    same = λ j h.
+        let x = getD (marks 1 n marked) j 0 in
+        let w = between 1 n marked j h in
+        let e : x ≡ suc (x - 1) = omega arith in
+        ap (fragmentOf k b) e ∙ a .same (x - 1) (omega arith) (marks-have 1 n marked j h);
+  }
 
-  through-fits : (c : ℕ) → c < len → ((p : ℕ) → getD area p 0 < 256)
-      → Fit area s c (marks 1 n marked) (through (marks 1 n marked) (map (λ x. getD (fragmentInArea s len area x) c 0) (marks 1 n marked)))
-  unfolding fragmentInArea cell
-  through-fits c h small =
-      through-takes xs (map (λ x. getD (fragmentInArea s len area x) c 0) xs) (sym (length-map xs (λ x. getD (fragmentInArea s len area x) c 0)))
-      (apart-marks 1 n marked) (bytes-marks n marked few)
-      (bytes-column xs (fragmentInArea s len area) c (byte-in small))
-      ∙ map-at (λ x. getD (fragmentInArea s len area x) c 0) (cell area s c) xs (λ i g. getD-part ((getD xs i 0 - 1) * s) len c area h)
-    where
-      xs : List ℕ
-      xs = marks 1 n marked
+  pub rebuilds-agrees : (b : List ℕ) → HasFragments k len (marks 1 n marked) (fragmentInArea s len area) b → Agrees n k s len marked area b
+  unfolding fragmentInArea
+  rebuilds-agrees b g = record {
+    size = g .size;
+    bytes = g .bytes;
+    same = λ i h m.
+        let (j, l, e) = marks-find 1 n marked i h m in
+        let z : suc i - 1 ≡ i = omega arith in
+        let y : getD (marks 1 n marked) j 0 ≡ suc i = omega arith in
+        rw (y, z) at (g .same j l);
+  }
 
   -- a block that agrees is the block through the first k marked fragments
   pub agrees-through : k ≤ ones marked → (b : List ℕ) → Agrees n k s len marked area b → blockThrough len (take k (marks 1 n marked)) (fragmentInArea s len area) ≡ b
@@ -184,28 +211,23 @@ module _ (n k s len marked : ℕ) (area : List ℕ) (pos : 0 < k) (few : n ≤ 6
       there : (i : ℕ) → i < length (take k (marks 1 n marked)) → fragmentOf k b (getD (take k (marks 1 n marked)) i 0) ≡ fragmentInArea s len area (getD (take k (marks 1 n marked)) i 0)
       there i h =
           subst (λ (x : ℕ). fragmentOf k b x ≡ fragmentInArea s len area x) (sym (getD-take k (marks 1 n marked) i 0 (omega (arith, l))))
-          (agrees-in b a i (omega (arith, l, length-take k (marks 1 n marked))))
+          (agrees-rebuilds b a .same i (omega (arith, l, length-take k (marks 1 n marked))))
 
   -- where exactly k are marked, the block through them agrees
   pub through-agrees : ones marked ≡ k → ((p : ℕ) → getD area p 0 < 256) → n * s ≤ length area → len ≤ s
       → Agrees n k s len marked area (blockThrough len (marks 1 n marked) (fragmentInArea s len area))
+  unfolding fragmentInArea
   through-agrees exact small room low =
-      fit-agrees n k s len marked area pos room low b (length-block-through xs fragment len ∙ ap (λ (m : ℕ). len * m) l)
-      (bytes-block-through xs fragment len (byte-in small))
-      (λ c h. subst (λ (m : ℕ). Fit area s c xs (row m b c)) l
-      (subst (Fit area s c xs) (sym (row-block-through xs fragment len c h)) (through-fits c h small)))
-    where
-      xs : List ℕ
-      xs = marks 1 n marked
-
-      fragment : ℕ → List ℕ
-      fragment = fragmentInArea s len area
-
-      b : List ℕ
-      b = blockThrough len (marks 1 n marked) (fragmentInArea s len area)
-
-      l : length (marks 1 n marked) ≡ k
-      l = length-marks 1 n marked below ∙ exact
+      let xs = marks 1 n marked in
+      let l : length (marks 1 n marked) ≡ k = length-marks 1 n marked below ∙ exact in
+      rebuilds-agrees _
+      (rw l at (through-rebuilds xs (fragmentInArea s len area) len (omega arith) (apart-marks 1 n marked) (bytes-marks n marked few) (byte-in small)
+      (λ i g.
+      let x = getD (marks 1 n marked) i 0 in
+      let (p, q, r) = boards n marked few s (length area) room i g in
+      let e : x ≡ suc (x - 1) = omega arith in
+      let f : x * s ≡ (x - 1) * s + s = ap (λ (y : ℕ). y * s) e ∙ N.suc-mul (x - 1) s in
+      length-part ((x - 1) * s) len area (omega arith))))
 
   pub any-k : ones marked ≡ k → ((p : ℕ) → getD area p 0 < 256) → n * s ≤ length area → len ≤ s → (b : List ℕ) × Agrees n k s len marked area b
   any-k exact small room low = (blockThrough len (marks 1 n marked) (fragmentInArea s len area), through-agrees exact small room low)

@@ -120,10 +120,10 @@ same-or-not : (a b : ℕ) → (a ≡ b) ⊎ (a ≢ b)
 same-or-not a b = ⊎-elim (λ l. inr (λ e. omega arith)) (λ l. ⊎-elim (λ e. inl (sym e)) (λ h. inr (λ e. omega arith)) (N.eq-or-lt-of-le l)) (lt-or-le a b)
 
 -- the weight of a point, from the products p of the others and o for the point itself
-pub weighed-point : (x z d at i p o : ℕ) → p ≡ mul d (mul at i) → (x ≡ z → o ≡ 1) → ((x ≡ z → ⊥) → o ≡ 0) → Weight x z d at i (add p o)
-weighed-point x z d at i p o e one none = record {
-  away = λ n. ap₂ add e (none n) ∙ L.add-zero (mul d (mul at i));
-  here = λ s t. ap₂ add (e ∙ ap (λ (v : ℕ). mul d (mul v i)) t ∙ ap (mul d) (L.zero-mul-l i) ∙ L.zero-mul-r d) (one s) ∙ L.zero-add 1;
+pub weighed-point : (x z d at i p o w : ℕ) → w ≡ add p o → p ≡ mul d (mul at i) → (x ≡ z → o ≡ 1) → ((x ≡ z → ⊥) → o ≡ 0) → Weight x z d at i w
+weighed-point x z d at i p o w q e one none = record {
+  away = λ n. q ∙ ap₂ add e (none n) ∙ L.add-zero (mul d (mul at i));
+  here = λ s t. q ∙ ap₂ add (e ∙ ap (λ (v : ℕ). mul d (mul v i)) t ∙ ap (mul d) (L.zero-mul-l i) ∙ L.zero-mul-r d) (one s) ∙ L.zero-add 1;
 }
 
 -- the weight of point j at z

@@ -5,7 +5,7 @@ use mathlib.Core.Path.{_≡_}
 use mathlib.Core.Bool.{Bool, true, false}
 use mathlib.Core.List.{List}
 use Prim.Native.Nat.{ℕ, suc, _*_, _<_}
-use lib.ListN.{length}
+use lib.ListN.{length, getD}
 use Rattle.octets.specs.Bytes.{part, put}
 use Rattle.octets.specs.Sets.{has}
 use Rattle.code.specs.Code.{All, Byte, fragmentOf}
@@ -15,6 +15,12 @@ pub record Agrees (n k s len marked : ℕ) (area b : List ℕ) : Type 0 where
   pub size : length b ≡ len * k
   pub bytes : All Byte b
   pub same : (i : ℕ) → i < n → has marked i ≡ true → fragmentOf k b (suc i) ≡ part (i * s) len area
+
+-- the same of fragments f by their boards' numbers: b is a block of len rows of k bytes whose fragments are those of the boards xs
+pub record HasFragments (k len : ℕ) (xs : List ℕ) (f : ℕ → List ℕ) (b : List ℕ) : Type 0 where
+  pub size : length b ≡ len * k
+  pub bytes : All Byte b
+  pub same : (i : ℕ) → i < length xs → fragmentOf k b (getD xs i 0) ≡ f (getD xs i 0)
 
 -- the answer r, and the buffer that held `old` and now holds `new`: the block that agrees, or false and nothing written where none does
 pub record Rebuilt (n k s len marked : ℕ) (area old : List ℕ) (r : Bool) (new : List ℕ) : Type 0 where

@@ -1,7 +1,5 @@
 // Weights by which bytes at some points add up to a coefficient, or to the value at another point, of the polynomial through them.
-use field::fold;
-use field::inverse;
-use field::product;
+use field::Element;
 use octets::clear_at;
 ghost use mathlib.Core.Path.{_≡_};
 ghost use mathlib.Core.List.{List};
@@ -20,7 +18,7 @@ fn attach(x: u8, row: &mut [u8], j: usize)
 {
     let mut i = j;
     while i + 1 < row.len() {
-        row[i] = fold(row[i], x, row[i + 1]);
+        row[i] = Element(row[i]).fold(Element(x), Element(row[i + 1])).0;
         i += 1;
     }
 }
@@ -47,9 +45,9 @@ fn deepen(points: &[u8], top: u8, low: &mut [u8], ds: &mut [u8])
 {
     let mut j = 0;
     while j < points.len() {
-        let v = fold(top, points[j], low[j]);
-        low[j] = v;
-        ds[j] = fold(v, points[j], ds[j]);
+        let v = Element(top).fold(Element(points[j]), Element(low[j]));
+        low[j] = v.0;
+        ds[j] = v.fold(Element(points[j]), Element(ds[j])).0;
         j += 1;
     }
 }
@@ -75,7 +73,7 @@ fn invert_all(xs: &mut [u8])
 {
     let mut j = 0;
     while j < xs.len() {
-        xs[j] = inverse(xs[j]);
+        xs[j] = Element(xs[j]).inverse().0;
         j += 1;
     }
 }
@@ -97,7 +95,10 @@ pub fn advance(points: &[u8], ds: &[u8], top: u8, ws: &mut [u8])
 {
     let mut j = 0;
     while j < points.len() {
-        ws[j] = fold(product(ds[j], top), points[j], ws[j]);
+        ws[j] = Element(ds[j])
+            .product(Element(top))
+            .fold(Element(points[j]), Element(ws[j]))
+            .0;
         j += 1;
     }
 }
@@ -109,7 +110,7 @@ pub fn expand(points: &[u8], m: &mut [u8])
 {
     let k = points.len();
     clear_at(m, 0, k);
-    m[k] = 1;
+    m[k] = Element::ONE.0;
     master(points, m);
 }
 
@@ -127,26 +128,26 @@ pub fn prepare(points: &[u8], m: &mut [u8], low: &mut [u8], ds: &mut [u8])
 pub fn value_at(row: &[u8], z: u8) -> u8
     ensures { λ r. ⌜ r ≡ value (now (row .entry)) z ⌝ }
 {
-    let mut v: u8 = 0;
+    let mut v = Element::ZERO;
     let mut j = row.len();
     while 0 < j {
         j -= 1;
-        v = row[j] ^ product(z, v);
+        v = Element(row[j]).fold(Element(z), v);
     }
-    v
+    v.0
 }
 
 // The product of all z - x, x a point.
 fn product_at(points: &[u8], z: u8) -> u8
     ensures { λ r. ⌜ r ≡ differences (now (points .entry)) z ⌝ }
 {
-    let mut v: u8 = 1;
+    let mut v = Element::ONE;
     let mut j = points.len();
     while 0 < j {
         j -= 1;
-        v = product(z ^ points[j], v);
+        v = Element(z).add(Element(points[j])).product(v);
     }
-    v
+    v.0
 }
 
 // z - x for each point x.
@@ -156,16 +157,16 @@ fn subtract(points: &[u8], z: u8, out: &mut [u8])
 {
     let mut j = 0;
     while j < points.len() {
-        out[j] = z ^ points[j];
+        out[j] = Element(z).add(Element(points[j])).0;
         j += 1;
     }
 }
 
 // 1 for a point's own weight at the point, which the product of all differences does not give.
-fn own(x: u8, z: u8) -> u8
-    ensures { λ r. ⌜ (x ≡ z → r ≡ 1) × ((x ≡ z → ⊥) → r ≡ 0) ⌝ }
+fn own(x: u8, z: u8) -> Element
+    ensures { λ r. ⌜ (x ≡ z → r .0 ≡ 1) × ((x ≡ z → ⊥) → r .0 ≡ 0) ⌝ }
 {
-    if x == z { 1 } else { 0 }
+    if x == z { Element::ONE } else { Element::ZERO }
 }
 
 // From the inverses of all z - x the weights: each times its scale and the product of all differences, `at`.
@@ -175,7 +176,10 @@ fn weigh(points: &[u8], ds: &[u8], z: u8, at: u8, ws: &mut [u8])
 {
     let mut j = 0;
     while j < points.len() {
-        ws[j] = product(ds[j], product(at, ws[j])) ^ own(points[j], z);
+        ws[j] = Element(ds[j])
+            .product(Element(at).product(Element(ws[j])))
+            .add(own(points[j], z))
+            .0;
         j += 1;
     }
 }

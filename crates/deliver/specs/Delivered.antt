@@ -43,6 +43,7 @@ pub record Left : Type 0 where
 abbrev pub left : Delivered → List ℕ → Left
 left r out = record { kind = r .kind; size = r .length; buffer = out }
 
+-- "Void" leaves the buffer; a message is put at its front
 unfoldable pub leftBy : Option (List ℕ) → List ℕ → Left
 leftBy none out = record { kind = 2; size = 0; buffer = out }
 leftBy (some m) out = record { kind = 1; size = length m; buffer = put 0 m out }

@@ -1,6 +1,6 @@
 // What a board reads from its kept fragments in the output stage, before it encodes them afresh: the message's length and the block's last row.
 // No block is held in memory: each of its bytes is a weighed sum of the kept bytes of its row.
-use field::product;
+use field::Element;
 use octets::wide;
 use table::Table;
 ghost use mathlib.Core.Path.{_≡_};
@@ -46,7 +46,9 @@ fn scale(area: &[u8], s: usize, points: &[u8], ds: &[u8], c: usize, es: &mut [u8
 {
     let mut j = 0;
     while j < points.len() {
-        es[j] = product(ds[j], cell_at(area, s, points[j], c));
+        es[j] = Element(ds[j])
+            .product(Element(cell_at(area, s, points[j], c)))
+            .0;
         j += 1;
     }
 }
@@ -55,13 +57,13 @@ fn scale(area: &[u8], s: usize, points: &[u8], ds: &[u8], c: usize, es: &mut [u8
 fn sum_of(ts: &[u8]) -> u8
     ensures { λ r. ⌜ r ≡ total (λ j. getD (now (ts .entry)) j 0) (length (now (ts .entry))) ⌝ }
 {
-    let mut v: u8 = 0;
+    let mut v = Element::ZERO;
     let mut j = 0;
     while j < ts.len() {
-        v = v ^ ts[j];
+        v = v.add(Element(ts[j]));
         j += 1;
     }
-    v
+    v.0
 }
 
 // Row c of the block, from the highest coefficient down. ts and es are room to work in.

@@ -22,6 +22,7 @@ pub record Lent : Type 0 where
   pub delivery : List ℕ
   pub text : List ℕ
 
+-- the seven buffers, as one
 abbrev pub lent : List ℕ → List ℕ → List ℕ → List ℕ → List ℕ → List ℕ → List ℕ → Lent
 lent message states kept handed out delivery text =
     record { message = message; states = states; kept = kept; handed = handed; out = out; delivery = delivery; text = text }
@@ -31,6 +32,7 @@ pub record DrillOut : Type 0 where
   pub answer : Sized
   pub left : Lent
 
+-- the answer and the buffers, as one
 abbrev pub drillOut : Sized → Lent → DrillOut
 drillOut x b = record { answer = x; left = b }
 
@@ -47,5 +49,6 @@ drillLeftBy input b =
     lent (put 0 (zeros 64) (b .message)) (put 0 (zeros 35588) (b .states)) (put 0 (zeros 14336) (b .kept)) (put 0 (zeros outBytes) (b .handed))
     (put 0 (zeros outBytes) (b .out)) (put 0 (zeros 64) (b .delivery)) (put 0 (drillOf input) (b .text))
 
+-- the call, whole
 unfoldable pub callOf : List ℕ → Lent → DrillOut
 callOf input b = pick (drillShort b) (drillOut (sized 2 0) b) (drillOut (sized 0 (length (drillOf input))) (drillLeftBy input b))

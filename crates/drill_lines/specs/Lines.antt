@@ -19,6 +19,7 @@ fits l = leb (length l) 1024
 unfoldable pub spaces : List ℕ → ℕ → Bool
 spaces l n = eqb (howMany 32 l) n
 
+-- "1,024 characters a line", and so many spaces
 unfoldable pub form : List ℕ → ℕ → Bool
 form l n = fits l && spaces l n
 

@@ -22,6 +22,7 @@ heading =
 unfoldable pub numbered : ℕ → List ℕ
 numbered n = decimal n ++ (32 ∷ [])
 
+-- a letter and a space
 unfoldable pub lettered : ℕ → List ℕ
 lettered c = c ∷ 32 ∷ []
 

@@ -49,9 +49,11 @@ pub record Turn : Type 0 where
   pub message : List ℕ
   pub boards : Boards
 
+-- what a step shows, the message and the boards, as one
 abbrev pub turn : Shown → List ℕ → Boards → Turn
 turn s m B = record { shown = s; message = m; boards = B }
 
+-- the receiver has taken the record: its answer is shown, its new state and what it put out are kept
 unfoldable pub taken : Boards → ℕ → Outcome → Turn
 taken B to x =
     turn (shown (x .answer .number) (actOf (getD (putBy x) 0 0)) (x .answer .delivery) (x .answer .«message_length»))
@@ -67,5 +69,6 @@ unfoldable pub turnBy : Table → List ℕ → Boards → ℕ → ℕ → ℕ �
 turnBy b message B kind from to l =
     pick (putOutYet b B kind from) (taken B to (stepIn B from to (recordFor b message B kind from to l))) (missing B)
 
+-- the step that line l says
 unfoldable pub turnOf : Table → List ℕ → Boards → List ℕ → Turn
 turnOf b message B l = turnBy b message B (kindIn l) (fromIn l) (toIn l) l

@@ -12,6 +12,7 @@ use Rattle.octets.specs.Bytes.{pick}
 unfoldable pub withDigit : ℕ → ℕ → ℕ
 withDigit v x = pick (leb 48 x && (leb x 57 && leb v 999)) (v * 10 + (x - 48)) 10000
 
+-- v with all the digits of a word
 unfoldable pub valueOf : ℕ → List ℕ → ℕ
 valueOf v [] = v
 valueOf v (x ∷ xs) = valueOf (withDigit v x) xs
@@ -24,6 +25,7 @@ numberOf w = pick (eqb (length w) 0 || (eqb (getD w 0 0) 48 && ltb 1 (length w))
 abbrev pub digit : ℕ → ℕ
 digit n = 48 + n % 10
 
+-- its digits, without a zero in front
 unfoldable pub decimal : ℕ → List ℕ
 decimal n =
     pick (ltb n 10) (digit n ∷ [])

@@ -44,6 +44,10 @@ powers-logs (suc a) h g =
     eqb→eq (getD powers (getD logs (suc a) 0) 0) (suc a)
     (below (λ (a : ℕ). eqb (getD powers (getD logs (suc a) 0) 0) (suc a)) 255 tt a (le-of-suc-le-suc g))
 
+pub logs-powers : (k : ℕ) → k < 255 → getD logs (getD powers k 0) 0 ≡ k
+unfolding powers logs
+logs-powers k h = eqb→eq _ _ (below (λ (k : ℕ). eqb (getD logs (getD powers k 0) 0) k) 255 tt k h)
+
 -- ---- products by sums of logarithms
 
 pub power-lt : (e : ℕ) → power e < 256
@@ -67,6 +71,9 @@ power-less e h =
 
 pub power-log : (a : ℕ) → 0 < a → a < 256 → power (getD logs a 0) ≡ a
 power-log a h g = sym (powers-at (getD logs a 0) (logs-lt a g)) ∙ powers-logs a h g
+
+pub log-power : (k : ℕ) → k < 255 → getD logs (power k) 0 ≡ k
+log-power k h = ap (λ (a : ℕ). getD logs a 0) (sym (powers-at k h)) ∙ logs-powers k h
 
 pub power-turn : (e : ℕ) → e < 255 → mul (power e) (power (255 - e)) ≡ 1
 power-turn e h = sym (power-add e (255 - e)) ∙ ap power (turn e h) ∙ power-255

@@ -4,10 +4,10 @@ ghost use Prim.Native.Nat.{ℕ, _<_, _≤_, _*_};
 ghost use lib.ListN.{length, getD};
 ghost use Rattle.field.specs.Field.{add, double, mul, power};
 
-// The powers of 2: each entry is twice the one before.
+// The powers of the generator: each entry is twice the one before.
 const POWERS: [u8; 255] = [
-    1,
-    2,
+    Element::ONE.0,
+    Element::GENERATOR.0,
     4,
     8,
     16,
@@ -523,59 +523,117 @@ const LOGS: [u8; 256] = [
     175,
 ];
 
-pub struct Element {
-    pub value: u8,
-}
+// An element of the field, which is a byte.
+pub struct Element(pub u8);
 
 impl Element {
-    pub const ZERO: Element = Element { value: 0 };
+    // Where a sum begins, where a product begins, and the element whose powers are all but ZERO.
+    pub const ZERO: Element = Element(0);
 
-    pub const ONE: Element = Element { value: 1 };
+    pub const ONE: Element = Element(1);
 
-    pub const GENERATOR: Element = Element { value: 2 };
+    pub const GENERATOR: Element = Element(2);
 
-    // The generator's power.
-    pub fn power(e: usize) -> Element
-        requires { ⌜ e < 510 ⌝ }
-        ensures { λ r. ⌜ r .value ≡ power e ⌝ }
+    pub fn add(self, other: Element) -> Element
+        ensures { λ r. ⌜ r .0 ≡ add (self .0) (other .0) ⌝ }
     {
-        let i = turn(e);
-        Element { value: POWERS[i] }
+        Element(self.0 ^ other.0)
     }
 
-    // The exponent at which the generator's power is this element.
-    pub fn log(self) -> usize
-        requires { ⌜ 0 < self .value ⌝ }
-        ensures { λ r. ⌜ (r < 255) × (power r ≡ self .value) ⌝ }
+    // With no table and no branch, so that a loop over it becomes vector code.
+    pub fn twice(self) -> Element
+        ensures { λ r. ⌜ r .0 ≡ double (self .0) ⌝ }
     {
-        let a = self.value as usize;
+        let x = self.0;
+        Element(x % 128 * 2 ^ x / 128 * 29)
+    }
+
+    // Twice this element, and bit · x added.
+    fn bit_step(self, bit: u8, x: Element) -> Element
+        requires { ⌜ bit < 2 ⌝ }
+        ensures { λ r. ⌜ r .0 ≡ add (bit * x .0) (double (self .0)) ⌝ }
+    {
+        Element(bit * x.0).add(self.twice())
+    }
+
+    // The product by the bits of this element, from the highest down: it too has no table and no branch.
+    pub fn product(self, x: Element) -> Element
+        ensures { λ r. ⌜ r .0 ≡ mul (self .0) (x .0) ⌝ }
+    {
+        let w = self.0;
+        let w1 = w / 2;
+        let w2 = w1 / 2;
+        let w3 = w2 / 2;
+        let w4 = w3 / 2;
+        let w5 = w4 / 2;
+        let w6 = w5 / 2;
+        let w7 = w6 / 2;
+        let t = Element::ZERO.bit_step(w7 % 2, x);
+        let t = t.bit_step(w6 % 2, x);
+        let t = t.bit_step(w5 % 2, x);
+        let t = t.bit_step(w4 % 2, x);
+        let t = t.bit_step(w3 % 2, x);
+        let t = t.bit_step(w2 % 2, x);
+        let t = t.bit_step(w1 % 2, x);
+        t.bit_step(w % 2, x)
+    }
+
+    // This element, and x y added.
+    pub fn fold(self, x: Element, y: Element) -> Element
+        ensures { λ r. ⌜ r .0 ≡ add (self .0) (mul (x .0) (y .0)) ⌝ }
+    {
+        self.add(x.product(y))
+    }
+
+    // The inverse as the 254th power: no table and no branch, and two values at a time, so that these stay in registers. ZERO has none, and gives
+    // ZERO.
+    pub fn inverse(self) -> Element
+        ensures { λ r. ⌜ (0 < self .0 → mul (self .0) (r .0) ≡ 1) ⌝ }
+    {
+        let a3 = self.product(self).product(self);
+        let a7 = a3.product(a3).product(self);
+        let a15 = a7.product(a7).product(self);
+        let a31 = a15.product(a15).product(self);
+        let a63 = a31.product(a31).product(self);
+        let a127 = a63.product(a63).product(self);
+        a127.product(a127)
+    }
+
+    // The generator's power, from the table.
+    pub fn power(e: usize) -> Element
+        requires { ⌜ e < 510 ⌝ }
+        ensures { λ r. ⌜ r .0 ≡ power e ⌝ }
+    {
+        let i = turn(e);
+        Element(POWERS[i])
+    }
+
+    // The exponent at which the generator's power is this element, from the table.
+    pub fn log(self) -> usize
+        requires { ⌜ 0 < self .0 ⌝ }
+        ensures { λ r. ⌜ (r < 255) × (power r ≡ self .0) ⌝ }
+    {
+        let a = self.0 as usize;
         LOGS[a] as usize
     }
 
-    pub fn add(self, other: Element) -> Element
-        ensures { λ r. ⌜ r .value ≡ add (self .value) (other .value) ⌝ }
+    // The product by the tables. (No call of the library goes by them: docs/DECISIONS.md, language forms.)
+    pub fn product_by_logs(self, other: Element) -> Element
+        ensures { λ r. ⌜ r .0 ≡ mul (self .0) (other .0) ⌝ }
     {
-        Element {
-            value: self.value ^ other.value,
-        }
-    }
-
-    pub fn mul(self, other: Element) -> Element
-        ensures { λ r. ⌜ r .value ≡ mul (self .value) (other .value) ⌝ }
-    {
-        if self.value == 0 {
+        if self.0 == 0 {
             return Element::ZERO;
         }
-        if other.value == 0 {
+        if other.0 == 0 {
             return Element::ZERO;
         }
         Element::power(self.log() + other.log())
     }
 
-    // The inverse; 0 has none.
-    pub fn inverse(self) -> Element
-        requires { ⌜ 0 < self .value ⌝ }
-        ensures { λ r. ⌜ mul (self .value) (r .value) ≡ 1 ⌝ }
+    // The inverse by the tables; ZERO has none.
+    pub fn inverse_by_logs(self) -> Element
+        requires { ⌜ 0 < self .0 ⌝ }
+        ensures { λ r. ⌜ mul (self .0) (r .0) ≡ 1 ⌝ }
     {
         Element::power(255 - self.log())
     }
@@ -589,63 +647,6 @@ fn turn(e: usize) -> usize
     if e < 255 { e } else { e - 255 }
 }
 
-// Twice x, with no table and no branch.
-pub fn twice(x: u8) -> u8
-    ensures { λ r. ⌜ r ≡ double x ⌝ }
-{
-    x % 128 * 2 ^ x / 128 * 29
-}
-
-// bit · x + 2 t, with no table and no branch.
-fn bit_step(bit: u8, x: u8, t: u8) -> u8
-    requires { ⌜ bit < 2 ⌝ }
-    ensures { λ r. ⌜ r ≡ add (bit * x) (double t) ⌝ }
-{
-    bit * x ^ twice(t)
-}
-
-// w · x by the bits of w, from the highest down: the product for long rows of bytes, where a loop over it becomes vector code.
-pub fn product(w: u8, x: u8) -> u8
-    ensures { λ r. ⌜ r ≡ mul w x ⌝ }
-{
-    let w1 = w / 2;
-    let w2 = w1 / 2;
-    let w3 = w2 / 2;
-    let w4 = w3 / 2;
-    let w5 = w4 / 2;
-    let w6 = w5 / 2;
-    let w7 = w6 / 2;
-    let t = bit_step(w7 % 2, x, 0);
-    let t = bit_step(w6 % 2, x, t);
-    let t = bit_step(w5 % 2, x, t);
-    let t = bit_step(w4 % 2, x, t);
-    let t = bit_step(w3 % 2, x, t);
-    let t = bit_step(w2 % 2, x, t);
-    let t = bit_step(w1 % 2, x, t);
-    bit_step(w % 2, x, t)
-}
-
-// c + x y
-pub fn fold(c: u8, x: u8, y: u8) -> u8
-    ensures { λ r. ⌜ r ≡ add c (mul x y) ⌝ }
-{
-    c ^ product(x, y)
-}
-
-// The inverse as the 254th power: no table on the stack and no branch, so that a loop over it becomes vector code, and two values at a time, so that
-// these stay in registers. 0 has none, and gives 0.
-pub fn inverse(a: u8) -> u8
-    ensures { λ r. ⌜ (0 < a → mul a r ≡ 1) ⌝ }
-{
-    let a3 = product(product(a, a), a);
-    let a7 = product(product(a3, a3), a);
-    let a15 = product(product(a7, a7), a);
-    let a31 = product(product(a15, a15), a);
-    let a63 = product(product(a31, a31), a);
-    let a127 = product(product(a63, a63), a);
-    product(a127, a127)
-}
-
 // Each of the first n bytes is doubled.
 pub fn double_all(s: &mut [u8], n: usize)
     requires { ⌜ n ≤ length (now s) ⌝ }
@@ -653,7 +654,7 @@ pub fn double_all(s: &mut [u8], n: usize)
 {
     let mut i = 0;
     while i < n {
-        s[i] = twice(s[i]);
+        s[i] = Element(s[i]).twice().0;
         i += 1;
     }
 }

@@ -59,7 +59,7 @@ forged-split : Delivered (boards 4 1) 1 7 forged × Delivered (boards 4 1) 2 8 f
 unfolding state pick count dueBy
 forged-split = (Delivered.then (Delivered.then (Delivered.then (Delivered.now refl))), Delivered.now refl)
 
-not-put-out : Genuine (boards 4 1) keeps Sent fresh 2 1 (say vote 7) → ⊥
+not-put-out : Genuine (boards 4 1) Sent fresh 2 1 (say vote 7) → ⊥
 not-put-out (inl p) = elim p [ ]
 not-put-out (inr (e, b, q)) = omega arith
 
@@ -76,11 +76,11 @@ alone-fair : Fair (boards 4 1) keeps Sent alone
 unfolding state pick
 alone-fair = Fair.went (Fair.went Fair.begun sends) echoes
   where
-    sends : (i : ℕ) (ρ : Note ℕ) → _≡_ {A = In (boards 4 1)} (hand 1 (send 7)) (hand i ρ) → T (keeps i) → T (keeps 1) → Genuine (boards 4 1) keeps Sent fresh i 1 ρ
+    sends : (i : ℕ) (ρ : Note ℕ) → _≡_ {A = In (boards 4 1)} (hand 1 (send 7)) (hand i ρ) → T (keeps i) → T (keeps 1) → Genuine (boards 4 1) Sent fresh i 1 ρ
     sends i ρ e ki kj = let ei : i ≡ 1 = cc in let q : ρ ≡ send 7 = cc in inr (ei, record { low = omega arith; high = omega arith }, q)
 
     echoes : (i : ℕ) (ρ : Note ℕ) → _≡_ {A = In (boards 4 1)} (hand 1 (say echo 7)) (hand i ρ) → T (keeps i) → T (keeps 1)
-        → Genuine (boards 4 1) keeps Sent (after fresh 1 (hand 1 (send 7))) i 1 ρ
+        → Genuine (boards 4 1) Sent (after fresh 1 (hand 1 (send 7))) i 1 ρ
     echoes i ρ e ki kj =
         let ei : 1 ≡ i = cc in
         let q : say echo 7 ≡ ρ = cc in

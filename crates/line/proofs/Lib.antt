@@ -16,3 +16,4 @@ pub mod Projected
 pub mod Rounds
 pub mod FourBoards
 pub mod Examples
+pub mod Pins

@@ -184,7 +184,7 @@ module _ {n t : ℕ} {Val : Type 0} {same : Val → Val → Bool} {B : Form n Va
 
     -- the promise of request 3: v is the sender's notice, which its record is read as
     pub kept : {keeps : ℕ → Bool} → Keepers n t keeps → (v : Val) → B .read (B .write (send v)) ≡ some (send v)
-        → {r : Run line} → Fair line keeps (Mail n (B .S) (λ j. B .write (send v))) r → Promise line n keeps (B .S) (λ j. B .write (send v)) v ⊥ r
+        → {r : Run line} → Fair line keeps (Mail n (B .S) (λ j. B .write (send v))) r → Promise line keeps (B .S) (Mail n (B .S) (λ j. B .write (send v))) v ⊥ r
     unfolding has-core ends sends laws
     kept K v fits f = promise (ends laws blank) (λ u. u) (λ s u d. (λ h. h, λ h. h)) sends K (λ j. B .write (send v)) mute v (λ j b. fits) f
       where

@@ -23,7 +23,7 @@ module _ {M : Machine} {n t : ℕ} {Val : Type 0} {R : Reading M Val} {E : EchoV
   -- the promise, with nothing else that may have happened
   pub promise : {S : ℕ} (D : Sends M n t Val R E S) {keeps : ℕ → Bool} → Keepers n t keeps → (mail : ℕ → M .Rec) → Mute R (Mail n S mail)
       → (v : Val) → ((j : ℕ) → Board n j → D .Fit j (mail j) v)
-      → {r : Run M} → Fair M keeps (Mail n S mail) r → Promise M n keeps S mail (result v) ⊥ r
+      → {r : Run M} → Fair M keeps (Mail n S mail) r → Promise M keeps S (Mail n S mail) (result v) ⊥ r
   promise {S} D {keeps} K mail mute v fit {r} f = record {
     agree = λ i j d e ki kj p q. inl (agree i j d e ki kj p q);
     valid = λ i d kS ki p. inl (valid i d kS ki p);

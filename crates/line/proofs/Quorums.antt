@@ -59,7 +59,7 @@ module _ {M : Machine} {n t : ℕ} {Val : Type 0} {R : Reading M Val} (E : EchoV
 
   module _ {keeps : ℕ → Bool} (K : Keepers n t keeps) {Sent : ℕ → ℕ → M .Rec → Type 0}
       (mute : Mute R Sent) where
-    pub genuine-said : {w : Word} {i j : ℕ} {ρ : M .Rec} {v : Val} {r : Run M} → R .Says w ρ v → Genuine M keeps Sent r i j ρ → Said R w i v r
+    pub genuine-said : {w : Word} {i j : ℕ} {ρ : M .Rec} {v : Val} {r : Run M} → R .Says w ρ v → Genuine M Sent r i j ρ → Said R w i v r
     genuine-said h (inl p) = put-said h p
     genuine-said {w} {i} {j} {ρ} {v} h (inr s) = absurd (mute w i j ρ v s h)
 

@@ -98,12 +98,12 @@ module _ (M : Machine) where
 
   -- a round of records that were genuine before it is fair
   pub round-fair : {keeps : ℕ → Bool} {Sent : ℕ → ℕ → M .Rec → Type 0} {r : Run M} → Fair M keeps Sent r → (n i : ℕ) (ρ : ℕ → M .Rec)
-      → ((j : ℕ) → Board n j → T (keeps i) → T (keeps j) → Genuine M keeps Sent r i j (ρ j)) → Fair M keeps Sent (round M r n i ρ)
+      → ((j : ℕ) → Board n j → T (keeps i) → T (keeps j) → Genuine M Sent r i j (ρ j)) → Fair M keeps Sent (round M r n i ρ)
   unfolding round
   round-fair fr zero i ρ g = fr
   round-fair {keeps} {Sent} {r} fr (suc n) i ρ g = Fair.went {j = suc n} (round-fair fr n i ρ (λ j b. g j (up b))) here
     where
-      here : (k : ℕ) (x : M .Rec) → _≡_ {A = In M} (hand i (ρ (suc n))) (hand k x) → T (keeps k) → T (keeps (suc n)) → Genuine M keeps Sent (round M r n i ρ) k (suc n) x
+      here : (k : ℕ) (x : M .Rec) → _≡_ {A = In M} (hand i (ρ (suc n))) (hand k x) → T (keeps k) → T (keeps (suc n)) → Genuine M Sent (round M r n i ρ) k (suc n) x
       here k x e kk kj =
           let ek : i ≡ k = cc in
           let ex : ρ (suc n) ≡ x = cc in

@@ -41,7 +41,7 @@ module _ {M : Machine} {n t : ℕ} {Val : Type 0} {R : Reading M Val} {E : EchoV
   module _ {keeps : ℕ → Bool} (K : Keepers n t keeps) (mail : ℕ → M .Rec) (mute : Mute R (Mail n S mail)) (kS : T (keeps S)) (v : Val)
       (fit : (j : ℕ) → Board n j → D .Fit j (mail j) v) where
     -- a send that S is said to have sent is S's
-    genuine-send : {j : ℕ} {ρ : M .Rec} {r : Run M} → D .Send ρ → Genuine M keeps (Mail n S mail) r S j ρ → ρ ≡ mail j
+    genuine-send : {j : ℕ} {ρ : M .Rec} {r : Run M} → D .Send ρ → Genuine M (Mail n S mail) r S j ρ → ρ ≡ mail j
     genuine-send h (inl p) = absurd (put-no-send h p)
     genuine-send h (inr s) = s .2
 
@@ -67,7 +67,7 @@ module _ {M : Machine} {n t : ℕ} {Val : Type 0} {R : Reading M Val} {E : EchoV
         (λ e h. elim (D .acquired-why (good E r j) x h) [
           | inl o ↦ Said.then (acquired-echoed f j kj o)
           | inr c ↦ (
-              let m : c .0 ≡ mail j = genuine-send (c .2) (subst (λ a. Genuine M keeps (Mail n S mail) r S a (c .0)) e (g S (c .0) (c .1) kS (subst (λ a. T (keeps a)) (sym e) kj))) in
+              let m : c .0 ≡ mail j = genuine-send (c .2) (subst (λ a. Genuine M (Mail n S mail) r S a (c .0)) e (g S (c .0) (c .1) kS (subst (λ a. T (keeps a)) (sym e) kj))) in
               subst (λ a. Said R echo j v (after r a x)) (sym e) (Said.now (c .3 v (subst (λ a. D .Fit j a v) (sym m) (fit j (K .known j kj))))))
         ])
         (λ h. Said.then (acquired-echoed f j kj h))

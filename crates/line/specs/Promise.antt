@@ -12,14 +12,14 @@ use Rattle.line.specs.Run.{Machine, Run, Delivered, Over}
 abbrev pub Mail : {Rec : Type 0} → ℕ → ℕ → (ℕ → Rec) → ℕ → ℕ → Rec → Type 0
 Mail n S mail i j ρ = (i ≡ S) × Board n j × (ρ ≡ mail j)
 
--- Demand 3 of the run r of a broadcast by board S. mail and result are what S puts out and what is to be delivered, if S keeps the rules;
+-- Demand 3 of the run r of a broadcast by board S. Sent and result are what S sends and what is to be delivered, if S keeps the rules;
 -- Unless is what else may have happened: two different strings hashed in the run have one hash value, or, without hashes, nothing.
-pub record Promise (M : Machine) (n : ℕ) (keeps : ℕ → Bool) (S : ℕ) (mail : ℕ → M .Rec) (result : M .Result) (Unless : Type 0) (r : Run M) : Type 0 where
+pub record Promise (M : Machine) (keeps : ℕ → Bool) (S : ℕ) (Sent : ℕ → ℕ → M .Rec → Type 0) (result : M .Result) (Unless : Type 0) (r : Run M) : Type 0 where
   -- agreement: no two rule-keeping boards deliver different results
   pub agree : (i j : ℕ) (d e : M .Result) → T (keeps i) → T (keeps j) → Delivered M i d r → Delivered M j e r → (d ≡ e) ⊎ Unless
   -- validity: under a rule-keeping sender no rule-keeping board delivers anything but the sender's message
   pub valid : (i : ℕ) (d : M .Result) → T (keeps S) → T (keeps i) → Delivered M i d r → (d ≡ result) ⊎ Unless
   -- totality: if every record between rule-keeping boards has been handed over, and one of them has delivered or the sender keeps
   -- the rules, all of them have delivered
-  pub total : Over M keeps (Mail n S mail) r → ((i : ℕ) × (d : M .Result) × T (keeps i) × Delivered M i d r) ⊎ T (keeps S)
+  pub total : Over M keeps Sent r → ((i : ℕ) × (d : M .Result) × T (keeps i) × Delivered M i d r) ⊎ T (keeps S)
       → (j : ℕ) → T (keeps j) → (d : M .Result) × Delivered M j d r

@@ -23,6 +23,7 @@ pub record Machine : Type 1 where
   pub puts : State → Input Order Rec → ℕ → Option Rec  -- the record put out for the board with this number
   pub gives : State → Input Order Rec → Option Result  -- what is delivered
 
+-- what comes to a board of this kind
 abbrev pub In : Machine → Type 0
 In M = Input (M .Order) (M .Rec)
 
@@ -53,20 +54,19 @@ module _ (M : Machine) where
     now : {r : Run} {x : In M} → M .gives (state r j) x ≡ some d → Delivered j d (after r j x)
     then : {r : Run} {k : ℕ} {y : In M} → Delivered j d r → Delivered j d (after r k y)
 
-  -- keeps: the boards that keep the rules. Sent i j ρ: i puts ρ out for j in no step, as a sender does.
-  -- "Between rule-keeping boards" includes a board's records to itself, so i and j may be one board.
-  module _ (keeps : ℕ → Bool) (Sent : ℕ → ℕ → M .Rec → Type 0) where
-    -- document 01: "Genuine means put out by that board for that receiver"
-    abbrev pub Genuine : Run → ℕ → ℕ → M .Rec → Type 0
-    Genuine r i j ρ = Put i j ρ r ⊎ Sent i j ρ
+  -- document 01: "Genuine means put out by that board for that receiver". Sent i j ρ: i puts ρ out for j in no step, as a sender does.
+  abbrev pub Genuine : (ℕ → ℕ → M .Rec → Type 0) → Run → ℕ → ℕ → M .Rec → Type 0
+  Genuine Sent r i j ρ = Put i j ρ r ⊎ Sent i j ρ
 
+  -- keeps: the boards that keep the rules. "Between rule-keeping boards" includes a board's records to itself, so i and j may be one board.
+  module _ (keeps : ℕ → Bool) (Sent : ℕ → ℕ → M .Rec → Type 0) where
     -- every record between rule-keeping boards was genuine when it was handed over
     pub data Fair : Run → Type 0 where
       begun : Fair fresh
       went : {r : Run} {j : ℕ} {x : In M} → Fair r
-          → ((i : ℕ) (ρ : M .Rec) → x ≡ hand i ρ → T (keeps i) → T (keeps j) → Genuine r i j ρ)
+          → ((i : ℕ) (ρ : M .Rec) → x ≡ hand i ρ → T (keeps i) → T (keeps j) → Genuine Sent r i j ρ)
           → Fair (after r j x)
 
     -- every record between rule-keeping boards has been handed over
     unfoldable pub Over : Run → Type 0
-    Over r = (i j : ℕ) (ρ : M .Rec) → T (keeps i) → T (keeps j) → Genuine r i j ρ → Took j (hand i ρ) r
+    Over r = (i j : ℕ) (ρ : M .Rec) → T (keeps i) → T (keeps j) → Genuine Sent r i j ρ → Took j (hand i ρ) r

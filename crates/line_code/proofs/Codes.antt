@@ -17,6 +17,7 @@ use Rattle.tree.specs.Tree.{rootOf, pathOf, flat}
 use Rattle.tree.specs.Check.{pathCorrect}
 use Rattle.tree.specs.Strings.{checkStrings, treeStrings}
 use Rattle.tree.proofs.Checks.{own-path, path-binds}
+use Rattle.code.proofs.Lists.{byte-at}
 use Rattle.code_encode.specs.Message.{fragmentFor}
 use Rattle.code_encode.proofs.Sizes.{rows-most, fragment-length}
 use Rattle.code_through.specs.Through.{marks}
@@ -27,7 +28,7 @@ use Rattle.line_fragments.specs.Hashed.{Clash}
 use Rattle.line_fragments.specs.Laws.{CodeLaws}
 use Rattle.line_code.specs.Parts.{bytes, bitsOf, Sendable, codeOf}
 use Rattle.octets.proofs.Picks.{holds, is-true}
-use Rattle.line_code.proofs.ByteLaws.{all-bytes, bytes-all, byte-at}
+use Rattle.line_code.proofs.ByteLaws.{all-bytes, bytes-all}
 use Rattle.line_code.proofs.Results.{bits-few, bits-has, bits-ones, first-of, fresh-coded, message-proper}
 
 -- ---- the tree

@@ -6,3 +6,4 @@ pub mod Lines
 pub mod Mails
 pub mod Results
 pub mod Codes
+pub mod Bounds

@@ -11,7 +11,7 @@ use lib.Dec.{eqb}
 use lib.ListN.{length}
 use Rattle.octets.specs.Bytes.{pick, part, two}
 use Rattle.code.specs.Code.{All, Byte}
-use Rattle.code.proofs.Lists.{all-append}
+use Rattle.code.proofs.Lists.{all-append, part-bytes, two-bytes}
 use Rattle.record.specs.Form.{parse, isKind, nodesMost, fragmentOk, recordOf, partsOk}
 use Rattle.record.specs.declared.Read.{Read}
 use Rattle.record.specs.declared.Read.the-variants.{Form, Fault}
@@ -20,7 +20,7 @@ use Rattle.record.proofs.Sections.{record-root, record-path, record-fragment}
 use Rattle.line.proofs.Tests.{off, none-some}
 use Rattle.line_fragments.specs.Step.{send, echo, vote}
 use Rattle.line_code.specs.Parts.{bytes, FragmentRecord, ofKind, recordRead, readRecord}
-use Rattle.line_code.proofs.ByteLaws.{all-bytes, bytes-all, part-bytes, two-bytes}
+use Rattle.line_code.proofs.ByteLaws.{all-bytes, bytes-all}
 
 -- root, path and fragment that a record of kind k can have
 pub record Good (k : ℕ) (r π f : List ℕ) : Type 0 where

@@ -1,27 +1,15 @@
--- A step of a board of bytes and a step of a board of the broadcast agree, and what the one leaves can go on.
-use Prim.Native.Nat.{ℕ, _-_, _≤_}
-use mathlib.Core.Bool.{Bool, true, false, not}
-use mathlib.Core.Path.{_≡_, refl, subst, _∙_}
+-- A step of a board of bytes and a step of a board of the broadcast agree.
+use Prim.Native.Nat.{ℕ, _≤_}
+use mathlib.Core.Bool.{true}
+use mathlib.Core.Path.{_≡_, refl, subst}
 use mathlib.Core.List.{List, List·Memᴰ}
-use mathlib.Core.Option.{Option, some, none}
-use lib.Dec.{eqb}
 use lib.ListN.{length}
 use Rattle.record.specs.Form.{outBytes}
-use Rattle.octets.specs.Bytes.{pick}
-use Rattle.octets.proofs.Laws.{length-put}
-use Rattle.table.specs.Table.{sMax}
 use Rattle.table.specs.declared.Table.{Table}
-use Rattle.deliver.specs.Delivered.{leftBy}
-use Rattle.state.specs.State.{view, stateSize, tableOf, ownOf, marksOf, marksBytes}
+use Rattle.state.specs.State.{view, stateSize, tableOf, ownOf, marksOf}
 use Rattle.state.specs.Sound.{sound}
-use Rattle.state.proofs.Writes.{table-kept, own-kept}
-use Rattle.board.specs.declared.Plan.{Plan}
-use Rattle.board.specs.declared.Plan.the-variants.{Refuse, Take}
 use Rattle.board.specs.Planned.{planOf}
-use Rattle.board.specs.Stepped.{recordRoot, marked, kept, settledTo, leaves}
-use Rattle.board.proofs.KeptLaws.{kept-length, kept-table, kept-own}
-use Rattle.board.proofs.StepSound.{step-sound}
-use Rattle.board_step.specs.Step.{good, delivered, saidBy, takenOf, byPlan, stepOf}
+use Rattle.board_step.specs.Step.{stepOf}
 use Rattle.line.specs.Run.{hand}
 use Rattle.line_fragments.specs.Step.{Line, BoardState, Act, act, afterAct}
 use Rattle.line_fragments.specs.Step as Spread
@@ -35,47 +23,6 @@ use Rattle.line_demand.proofs.Nexts.{next-by}
 use Rattle.line_demand.proofs.Puts.{puts-by}
 use Rattle.line_demand.proofs.Gives.{gives-by}
 use Rattle.line_demand.proofs.Hashing.{hashes-by}
-
--- ---- table, own number, lengths and soundness stay
-
-delivered-length : (e : Bool) (x : Option (List ℕ)) (d : List ℕ) → length (delivered e x d .buffer) ≡ length d
-unfolding delivered leftBy pick
-delivered-length false x d = refl
-delivered-length true none d = refl
-delivered-length true (some m) d = length-put 0 m d
-
--- what a step leaves in the buffers s, o and d
-pub record Stays (s o d s2 o2 d2 : List ℕ) : Type 0 where
-  pub table : tableOf s2 ≡ tableOf s
-  pub own : ownOf s2 ≡ ownOf s
-  pub size : length s2 ≡ length s
-  pub out : length o2 ≡ length o
-  pub delivery : length d2 ≡ length d
-  pub still-sound : sound (view s2) ≡ true
-
-module _ (s : List ℕ) (from : ℕ) (r o d : List ℕ) (so : sound (view s) ≡ true) where
-  stays-by : (x : Plan) → planOf s from r o d ≡ x → Stays s o d (byPlan x s from r o d .state) (byPlan x s from r o d .out) (byPlan x s from r o d .delivery)
-  unfolding byPlan takenOf leaves saidBy
-  stays-by (Refuse q) e = record { table = refl; own = refl; size = refl; out = refl; delivery = refl; still-sound = so }
-  stays-by (Take k p f) e =
-      let b = tableOf s in
-      let ok = good k p f from r s in
-      let s1 = kept (sMax b) k (from - 1) p f r s in
-      let m = settledTo b (not (eqb k 1)) (marked k (from - 1) ok (marksOf s)) s1 (recordRoot r) in
-      record {
-        table = table-kept m s1 ∙ kept-table (sMax b) k (from - 1) p f r s;
-        own = own-kept m s1 ∙ kept-own (sMax b) k (from - 1) p f r s;
-        size = length-put 6 (marksBytes m) s1 ∙ kept-length (sMax b) k (from - 1) p f r s;
-        out = length-put 0 _ o;
-        delivery = delivered-length _ _ d;
-        still-sound = step-sound s from r o d ok k p f e;
-      }
-
-  pub stays : Stays s o d (stepOf s from r o d .state) (stepOf s from r o d .out) (stepOf s from r o d .delivery)
-  unfolding stepOf
-  stays = stays-by (planOf s from r o d) refl
-
--- ---- and the two steps do the same
 
 module _ (b : Table) (own : ℕ) (s : List ℕ) (from : ℕ) (r o d : List ℕ) where
   abbrev B : Line (b .n) (b .t) (codeOf b)

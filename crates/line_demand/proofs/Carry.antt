@@ -7,7 +7,7 @@ use mathlib.Core.List.{List}
 use mathlib.Core.Option.{Option, some, none}
 use borrow.Author.Tests.{le-ltb, le-leb, leb-true}
 use lib.ListN.{length}
-use lib.Dec.{leb}
+use lib.Dec.{T, leb}
 use Rattle.record.specs.Form.{outBytes}
 use Rattle.octets.specs.Bytes.{pick, put}
 use Rattle.octets.proofs.Laws.{length-put}
@@ -17,7 +17,8 @@ use Rattle.table.specs.declared.Table.{Table}
 use Rattle.state.specs.State.{fixedBytes, view, stateSize, tableOf, ownOf, marksOf}
 use Rattle.state.specs.Sound.{sound}
 use Rattle.board.specs.Started.{freshBytes, startOf}
-use Rattle.board.proofs.Starts.{start-table, start-own, start-sound}
+use Rattle.board.proofs.Starts.{start-table, start-own, fresh-sound}
+use Rattle.board_step.proofs.Outcomes.{stays}
 use Rattle.line.specs.Boards.{Board}
 use Rattle.line.specs.Run.{Machine, Input, In, hand, tell}
 use Rattle.line.proofs.Projected.{Carries}
@@ -27,7 +28,7 @@ use Rattle.line_fragments.specs.Step as Spread
 use Rattle.line_code.specs.Parts.{bytes, codeOf, lineOf, readRecord}
 use Rattle.line_demand.specs.Boards.{Desk, Lend, Roomy, longEnough, lends, stepAt, deskOf, putIn, givenIn, next, puts, gives, begin, boards}
 use Rattle.line_demand.proofs.Shown.{shownOf}
-use Rattle.line_demand.proofs.Agree.{stays, Agrees, agrees}
+use Rattle.line_demand.proofs.Agree.{Agrees, agrees}
 use Rattle.line_demand.proofs.Started.{broadcast, start-shown}
 
 -- what a board of the broadcast sees of what comes to a board of bytes: records, once it is started
@@ -65,7 +66,7 @@ module _ (b : Table) where
       record {
         table = start-table b j (d .state) lim known long;
         own = start-own b j (d .state) lim known long;
-        is-sound = start-sound b j (d .state) lim known long;
+        is-sound = fresh-sound b j (d .state) lim known long;
         room = rw length-put room;
         out = roomy .out;
         delivery = roomy .delivery;
@@ -86,10 +87,14 @@ module _ (b : Table) where
       go true e = subst (λ o. Shows j o (broadcast b .start j)) (sym (begun-is j d roomy lim true e)) (started j d roomy lim e)
       go false e = subst (λ o. Shows j o (broadcast b .start j)) (sym (begun-is j d roomy lim false e)) tt
 
+  pub board-is : (j : ℕ) → Board (b .n) j → isBoard b j ≡ true
+  unfolding isBoard
+  board-is j bd = rw (le-leb 1 j (bd .low), le-leb j (b .n) (bd .high))
+
   -- every board of the line is started
   pub begun-some : (j : ℕ) (d : Desk) → Roomy b d → limits b ≡ true → Board (b .n) j → (e : Desk) × (begin b j d ≡ some e)
-  unfolding isBoard pick
-  begun-some j d roomy lim bd = (_, begun-is j d roomy lim true (rw (le-leb 1 j (bd .low), le-leb j (b .n) (bd .high))))
+  unfolding pick
+  begun-some j d roomy lim bd = (_, begun-is j d roomy lim true (board-is j bd))
 
   -- ---- steps
 
@@ -157,7 +162,7 @@ module _ (b : Table) where
 
   -- ---- the boards of bytes and those of the broadcast
 
-  module _ (lim : limits b ≡ true) (lent : ℕ → Desk) (roomy : (j : ℕ) → Roomy b (lent j)) where
+  module _ (lim : limits b ≡ true) (lent : ℕ → Desk) (keeps : ℕ → Bool) (roomy : (j : ℕ) → T (keeps j) → Roomy b (lent j)) where
     abbrev BB : Machine
     BB = boards b lent
 
@@ -216,12 +221,12 @@ module _ (b : Table) where
     gives-back j (some d) x h (tell l) z e q g = none-some z q
     gives-back j (some d) x h (hand i r) z e q g = let p : z ≡ hand i r = cc in (e, give-same j d x h i r ∙ subst (λ a. MM .gives x a ≡ some e) p g, refl)
 
-    unfoldable pub carries : Carries (boards b lent) (broadcast b) sees
+    unfoldable pub carries : Carries (boards b lent) (broadcast b) sees keeps
     carries = record {
       Shows = Shows;
       of = λ β. some β;
       res = λ d. some d;
-      starts = λ j. starts j (lent j) (roomy j) lim;
+      starts = λ j kj. starts j (lent j) (roomy j kj) lim;
       steps = λ {j} {b = o} {s = x} h y z e. steps j o x h y z e;
       idles = λ {j} {b = o} {s = x} h y e. idles j o x h y e;
       seen = seen;

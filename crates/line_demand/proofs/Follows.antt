@@ -1,6 +1,6 @@
 -- n 4, t 1, S 1, L 16: the run of line/proofs/FourBoards by the boards that C calls, from the same run of the broadcast.
 use Prim.Native.Nat.{ℕ}
-use mathlib.Core.Bool.{Bool}
+use mathlib.Core.Bool.{Bool, true}
 use mathlib.Core.Path.{_≡_, refl, subst, sym}
 use mathlib.Core.Logic.{inl, inr}
 use mathlib.Core.List.{List, []}
@@ -33,8 +33,12 @@ module _ (lent : ℕ → Desk) (roomy : (j : ℕ) → Roomy small (lent j)) {v :
   abbrev M : Machine
   M = broadcast small
 
-  abbrev K : Carries B M sees
-  K = carries small small-limits lent roomy
+  -- every board is looked at, whether it keeps the rules or not
+  abbrev everyone : ℕ → Bool
+  everyone j = true
+
+  abbrev K : Carries B M sees everyone
+  K = carries small small-limits lent everyone (λ j kj. roomy j)
 
   abbrev A : LineLaws (lineOf small)
   A = line-laws small small-limits
@@ -54,7 +58,7 @@ module _ (lent : ℕ → Desk) (roomy : (j : ℕ) → Roomy small (lent j)) {v :
   -- ---- it is that run of the broadcast
 
   passes : (ρ : ℕ → List ℕ) → Passes B M sees ρ ρ
-  passes ρ q i k j b = passed small small-limits lent roomy j b i (ρ k) q
+  passes ρ q i k j b = passed small small-limits lent everyone (λ l kl. roomy l) j tt b i (ρ k) q
 
   is-sent : project B M sees (sent B 1 m e w) ≡ sent M 1 m e w
   is-sent = sent-project B M sees 1 m e w m e w (passes m) (passes e) (passes (λ i. w))
@@ -67,11 +71,11 @@ module _ (lent : ℕ → Desk) (roomy : (j : ℕ) → Roomy small (lent j)) {v :
 
   put-in : {i j : ℕ} {ρ : List ℕ} (r : Run B) (q : Run M) → project B M sees r ≡ q → Put M i j ρ q → Put B i j ρ r
   unfolding carries
-  put-in {i} {j} {ρ} r q h p = let (β, x, y) = put-back K r i j ρ (subst (Put M i j ρ) (sym h) p) in subst (λ a. Put B i j a r) (some-is y) x
+  put-in {i} {j} {ρ} r q h p = let (β, x, y) = put-back K r i j tt ρ (subst (Put M i j ρ) (sym h) p) in subst (λ a. Put B i j a r) (some-is y) x
 
   only : (i j : ℕ) (ρ : List ℕ) → Put B i j ρ run → Put M i j ρ (voted M 1 m e w)
   unfolding carries
-  only i j ρ p = subst (Put M i j ρ) is-voted (put-on K refl p)
+  only i j ρ p = subst (Put M i j ρ) is-voted (put-on K tt refl p)
 
   -- ---- so it is fair, every record is handed over, and each board delivers
 
@@ -96,5 +100,5 @@ module _ (lent : ℕ → Desk) (roomy : (j : ℕ) → Roomy small (lent j)) {v :
       → Delivered B j d run
   unfolding carries
   run-delivers d is j b =
-      let (c, x, y) = delivered-back K run j d (subst (Delivered M j d) (sym is-voted) (delivers A (λ i. []) (λ i. []) G d is j b)) in
+      let (c, x, y) = delivered-back K run j tt d (subst (Delivered M j d) (sym is-voted) (delivers A (λ i. []) (λ i. []) G d is j b)) in
       subst (λ a. Delivered B j a run) (some-is y) x

@@ -14,6 +14,7 @@ pub mod Carry
 pub mod Reached
 pub mod Strings
 pub mod Demand
+pub mod Pins
 pub mod Void
 pub mod Follows
 pub mod NotEmpty

@@ -1,9 +1,10 @@
 -- What holds of a board of the line at every point of a run: it is started, its state is sound, and no step is refused with 2 or 3.
 use Prim.Native.Nat.{ℕ}
-use mathlib.Core.Bool.{true, not}
+use mathlib.Core.Bool.{Bool, true, not}
 use mathlib.Core.Path.{_≡_, refl, subst, ap}
 use mathlib.Core.List.{List}
 use mathlib.Core.Option.{Option, some, none}
+use lib.Dec.{T}
 use Rattle.octets.specs.Bytes.{pick}
 use Rattle.table.specs.Table.{limits, isBoard}
 use Rattle.table.specs.declared.Table.{Table}
@@ -23,7 +24,7 @@ use Rattle.line_demand.proofs.Acts.{plan-is}
 use Rattle.line_demand.proofs.Started.{broadcast}
 use Rattle.line_demand.proofs.Carry.{sees, Holds, Shows, begun-some, carries}
 
-module _ (b : Table) (limited : limits b ≡ true) (lent : ℕ → Desk) (roomy : (j : ℕ) → Roomy b (lent j)) where
+module _ (b : Table) (limited : limits b ≡ true) (lent : ℕ → Desk) (keeps : ℕ → Bool) (roomy : (j : ℕ) → T (keeps j) → Roomy b (lent j)) where
   abbrev BB : Machine
   BB = boards b lent
 
@@ -33,17 +34,17 @@ module _ (b : Table) (limited : limits b ≡ true) (lent : ℕ → Desk) (roomy 
   goes-on (some d) (tell l) h = (_, refl)
   goes-on (some d) (hand i r) h = (_, refl)
 
-  pub started : (j : ℕ) → Board (b .n) j → (r : Run BB) → (d : Desk) × (state BB r j ≡ some d)
-  started j bd = along BB (λ q o. (d : Desk) × (o ≡ some d)) j (begun-some b j (lent j) (roomy j) limited bd) (λ q x h. goes-on (state BB q j) x h) (λ q k x h. h)
+  pub started : (j : ℕ) → T (keeps j) → Board (b .n) j → (r : Run BB) → (d : Desk) × (state BB r j ≡ some d)
+  started j kj bd = along BB (λ q o. (d : Desk) × (o ≡ some d)) j (begun-some b j (lent j) (roomy j kj) limited bd) (λ q x h. goes-on (state BB q j) x h) (λ q k x h. h)
 
   -- so it takes what it is handed
-  pub passed : (j : ℕ) → Board (b .n) j → (i : ℕ) (β : List ℕ) (q : Run BB) → sees (state BB q j) (hand i β) ≡ some (hand i β)
-  passed j bd i β q = let (d, e) = started j bd q in ap (λ (o : Option Desk). sees o (hand i β)) e
+  pub passed : (j : ℕ) → T (keeps j) → Board (b .n) j → (i : ℕ) (β : List ℕ) (q : Run BB) → sees (state BB q j) (hand i β) ≡ some (hand i β)
+  passed j kj bd i β q = let (d, e) = started j kj bd q in ap (λ (o : Option Desk). sees o (hand i β)) e
 
-  module _ (r : Run BB) (j : ℕ) (d : Desk) (here : state BB r j ≡ some d) where
+  module _ (r : Run BB) (j : ℕ) (kj : T (keeps j)) (d : Desk) (here : state BB r j ≡ some d) where
     held : Holds b j d (state (broadcast b) (project BB (broadcast b) sees r) j)
     unfolding carries
-    held = subst (λ o. Shows b j o (state (broadcast b) (project BB (broadcast b) sees r) j)) here (shows (carries b limited lent roomy) r j)
+    held = subst (λ o. Shows b j o (state (broadcast b) (project BB (broadcast b) sees r) j)) here (shows (carries b limited lent keeps roomy) r j kj)
 
     -- document 01: "Whatever state a start or a step leaves is sound."
     pub run-sound : sound (view (d .state)) ≡ true

@@ -1,5 +1,6 @@
 -- A line of boards that are bytes: each runs `startOf` once and then `stepOf`, the definitions that the contracts of start and step cite.
 use Prim.Native.Nat.{ℕ, zero, suc, _≤_}
+use mathlib.Core.Path.{_≡_}
 use mathlib.Core.List.{List}
 use mathlib.Core.Bool.{Bool, true, false, _&&_}
 use mathlib.Core.Option.{Option, some, none}
@@ -10,7 +11,9 @@ use Rattle.octets.specs.Bytes.{pick, part}
 use Rattle.table.specs.declared.Table.{Table}
 use Rattle.state.specs.State.{stateSize}
 use Rattle.board.specs.Started.{startOf}
+use Rattle.board_send.specs.Sent.{sendOf}
 use Rattle.board_step.specs.Step.{Outcome, stepOf}
+use Rattle.line.specs.Boards.{Board}
 use Rattle.line.specs.Run.{Machine, Input, hand, tell}
 use Rattle.line_code.specs.Parts.{bytes}
 
@@ -29,6 +32,7 @@ pub record Lend : Type 0 where
 abbrev pub longEnough : Table → Lend → Bool
 longEnough b l = leb outBytes (length (l .out)) && leb (b .longest) (length (l .delivery))
 
+-- the buffers with which the next step is taken
 abbrev pub lends : Desk → Lend → Bool → Desk
 lends d l true = record { state = d .state; out = l .out; delivery = l .delivery }
 lends d l false = d
@@ -37,6 +41,7 @@ lends d l false = d
 abbrev pub stepAt : Desk → ℕ → List ℕ → Outcome
 stepAt d i r = stepOf (d .state) i r (d .out) (d .delivery)
 
+-- what a step leaves of the three buffers
 abbrev pub deskOf : Outcome → Desk
 deskOf w = record { state = w .state; out = w .out; delivery = w .delivery }
 
@@ -51,9 +56,11 @@ deliveredIn zero size d = none
 deliveredIn (suc zero) size d = some (some (part 0 size d))
 deliveredIn (suc (suc x)) size d = some none
 
+-- the record put out in what a step leaves
 abbrev pub putIn : Outcome → Option (List ℕ)
 putIn w = recordIn (w .answer .«record_length») (w .out)
 
+-- the delivery in what a step leaves
 abbrev pub givenIn : Outcome → Option (Option (List ℕ))
 givenIn w = deliveredIn (w .answer .delivery) (w .answer .«message_length») (w .delivery)
 
@@ -69,6 +76,7 @@ puts none x k = none
 puts (some d) (tell l) k = none
 puts (some d) (hand i r) k = pick (bytes r) (putIn (stepAt d i r)) none
 
+-- "the delivery (none, message with length, void)"
 unfoldable pub gives : Option Desk → Input Lend (List ℕ) → Option (Option (List ℕ))
 gives none x = none
 gives (some d) (tell l) = none
@@ -98,3 +106,13 @@ pub record Roomy (b : Table) (d : Desk) : Type 0 where
   pub state : stateSize b ≤ length (d .state)
   pub out : outBytes ≤ length (d .out)
   pub delivery : b .longest ≤ length (d .delivery)
+
+-- "A rule-keeping sender puts out its n send records for one message": the sender i calls for board j, with an outgoing buffer that is long enough, and
+-- ρ is what the call leaves at the buffer's front. `sendOf` is what the contract of the sender's call cites; the call touches no board's state, so it
+-- stands beside the run and is no order of it
+pub record Sends (b : Table) (m : List ℕ) (i j : ℕ) (ρ : List ℕ) : Type 0 where
+  pub sender : i ≡ b .sender
+  pub board : Board (b .n) j
+  pub out : List ℕ
+  pub room : outBytes ≤ length out
+  pub is : ρ ≡ part 0 (sendOf b m j out .answer .length) (sendOf b m j out .out)

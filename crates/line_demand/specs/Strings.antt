@@ -36,6 +36,7 @@ deliveryStrings k p f s from r =
     let s1 = kept (sMax b) k (from - 1) p f r s in
     pick (endsNow b (not (eqb k 1)) m s1 (recordRoot r)) (freshStrings b (usableFor b m s1 (recordRoot r)) (keptOf (sMax b) s1)) []
 
+-- "records that rule-keeping boards accept": a record that is refused has no strings
 unfoldable pub planStrings : Plan → List ℕ → ℕ → List ℕ → List (List ℕ)
 planStrings (Refuse q) s from r = []
 planStrings (Take k p f) s from r = pathStrings k p f s from r ++ deliveryStrings k p f s from r

@@ -70,7 +70,7 @@ boards n t = board (line n t) (λ i. 0) (λ i. 0)
 
 -- so these boards keep the promise
 promised : (n t : ℕ) → 3 * t < n → {keeps : ℕ → Bool} → Keepers n t keeps → (m : ℕ) → {r : Run (boards n t)} → Fair (boards n t) keeps (Mail n 1 (mail (line n t) m)) r
-    → Promise (boards n t) n keeps 1 (mail (line n t) m) (some m) (CollisionIn numbers (boards n t) (hashes (line n t)) keeps 1 m r) r
+    → Promise (boards n t) keeps 1 (Mail n 1 (mail (line n t) m)) (some m) (CollisionIn numbers (boards n t) (hashes (line n t)) keeps 1 m r) r
 promised n t h K m f = kept (line-laws n t h) (λ i. 0) (λ i. 0) (code-laws n t) (mail-laws n t) K m tt f
 
 -- the run of document 01's drill: n 1, t 0, and the board's own send, echo and vote

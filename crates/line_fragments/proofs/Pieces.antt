@@ -62,7 +62,7 @@ module _ {M : Machine} {n t : ℕ} {C : Code} {R : Reading M (C .Root)} {E : Ech
         ])
         (heard-usable f i j v ki kj)
       where
-        correct : (ρ : M .Rec) → R .Says echo ρ v → Genuine M keeps Sent r i k ρ → P .Correct i ρ
+        correct : (ρ : M .Rec) → R .Says echo ρ v → Genuine M Sent r i k ρ → P .Correct i ρ
         correct ρ h (inl p) = put-correct h p
         correct ρ h (inr s) = absurd (mute echo i k ρ v s h)
 
@@ -126,7 +126,7 @@ module _ {M : Machine} {n t : ℕ} {C : Code} {R : Reading M (C .Root)} {E : Ech
   -- The promise.
   pub promise : CodeLaws n t C → {S : ℕ} (D : Sends M n t (C .Root) R E S) {keeps : ℕ → Bool} → Keepers n t keeps → (mail : ℕ → M .Rec) → Mute R (Mail n S mail)
       → (m : C .Msg) → C .Fits m → ((j : ℕ) → Board n j → D .Fit j (mail j) (C .root m))
-      → {r : Run M} → Fair M keeps (Mail n S mail) r → Promise M n keeps S mail (P .told (some m)) (CollisionIn C M (P .hashes) keeps S m r) r
+      → {r : Run M} → Fair M keeps (Mail n S mail) r → Promise M keeps S (Mail n S mail) (P .told (some m)) (CollisionIn C M (P .hashes) keeps S m r) r
   promise L {S} D {keeps} K mail mute m fm fit {r} f = record {
     agree = agree;
     valid = valid;

@@ -278,7 +278,7 @@ module _ {n t : ℕ} {C : Code} {B : Line n t C} (A : LineLaws B) (r₀ : ℕ �
   -- m is the message of a rule-keeping sender.
   pub kept : CodeLaws n t C → MailLaws B → {keeps : ℕ → Bool} → Keepers n t keeps → (m : C .Msg) → C .Fits m
       → {r : Run M} → Fair M keeps (Mail n (B .S) (mail B m)) r
-      → Promise M n keeps (B .S) (mail B m) (some m) (CollisionIn C M (hashes B) keeps (B .S) m r) r
+      → Promise M keeps (B .S) (Mail n (B .S) (mail B m)) (some m) (CollisionIn C M (hashes B) keeps (B .S) m r) r
   unfolding pieces sends has-core
   kept L Z K m fm f =
       promise (pieces L Z) L sends K (mail B m) mute m fm (λ j b. (C .path m j, C .piece m j, Z .send-back m j fm b, Z .piece-short m j fm b, L .path-good m j fm b)) f

@@ -15,9 +15,11 @@ pick false a b = b
 abbrev pub twoAt : List ℕ → ℕ → ℕ
 twoAt s a = getD s a 0 * 256 + getD s (a + 1) 0
 
+-- four bytes: two numbers of two
 unfoldable pub fourAt : List ℕ → ℕ → ℕ
 fourAt s a = twoAt s a * 65536 + twoAt s (a + 2)
 
+-- eight bytes: two numbers of four
 unfoldable pub eightAt : List ℕ → ℕ → ℕ
 eightAt s a = fourAt s a * 4294967296 + fourAt s (a + 4)
 
@@ -25,9 +27,11 @@ eightAt s a = fourAt s a * 4294967296 + fourAt s (a + 4)
 abbrev pub two : ℕ → List ℕ
 two n = n / 256 % 256 ∷ n % 256 ∷ []
 
+-- four bytes: two numbers of two
 abbrev pub four : ℕ → List ℕ
 four n = two (n / 65536) ++ two (n % 65536)
 
+-- eight bytes: two numbers of four
 abbrev pub eight : ℕ → List ℕ
 eight n = four (n / 4294967296) ++ four (n % 4294967296)
 

@@ -34,6 +34,7 @@ words b (suc t) = words b t ++ (nextWord b (words b t) t ∷ [])
 unfoldable pub T₁ : ℕ → ℕ → ℕ → ℕ → ℕ → ℕ → ℕ
 T₁ e f g h k w = h ⊞ Σ₁ e ⊞ ch e f g ⊞ k ⊞ w
 
+-- 6.2.2 step 3, the second sum
 unfoldable pub T₂ : ℕ → ℕ → ℕ → ℕ
 T₂ a b c = Σ₀ a ⊞ maj a b c
 

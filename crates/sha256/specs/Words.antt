@@ -15,6 +15,7 @@ not32 x = 2 ^ 32 - 1 - x
 unfoldable pub shr : ℕ → ℕ → ℕ
 shr n x = x / 2 ^ n
 
+-- 2.2.2, the rotation to the right
 unfoldable pub rotr : ℕ → ℕ → ℕ
 rotr n x = bitOr (x / 2 ^ n) (x * 2 ^ (32 - n) % 2 ^ 32)
 

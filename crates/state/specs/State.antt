@@ -18,9 +18,11 @@ fixedBytes = 4608
 abbrev pub keptLengths : ℕ
 keptLengths = 40
 
+-- the echoes' roots, 32 bytes a board
 abbrev pub echoRoots : ℕ
 echoRoots = 256
 
+-- the votes' roots, 32 bytes a board
 abbrev pub voteRoots : ℕ
 voteRoots = 2304
 
@@ -28,12 +30,15 @@ voteRoots = 2304
 abbrev pub lenAt : ℕ → ℕ
 lenAt i = keptLengths + 2 * i
 
+-- the root that its echo named
 abbrev pub echoAt : ℕ → ℕ
 echoAt i = echoRoots + 32 * i
 
+-- the root that its vote named
 abbrev pub voteAt : ℕ → ℕ
 voteAt i = voteRoots + 32 * i
 
+-- its fragment, in a room of s_max bytes
 abbrev pub fragmentAt : ℕ → ℕ → ℕ
 fragmentAt max i = fixedBytes + i * max
 

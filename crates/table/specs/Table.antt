@@ -26,5 +26,6 @@ sMax b = (b .longest + 4 + (kOf b - 1)) / kOf b
 abbrev pub mostOf : Table → ℕ
 mostOf b = b .n - b .t
 
+-- t + 1
 abbrev pub someOf : Table → ℕ
 someOf b = b .t + 1

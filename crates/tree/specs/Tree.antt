@@ -47,6 +47,7 @@ module _ (H : List ℕ → List ℕ) where
   unfoldable pub leafHash : List ℕ → List ℕ
   leafHash f = H (0 ∷ f)
 
+  -- "node prefix byte 1"
   unfoldable pub nodeHash : List ℕ → List ℕ → List ℕ
   nodeHash x y = H (1 ∷ (x ++ y))
 

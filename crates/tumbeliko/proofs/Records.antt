@@ -1,6 +1,6 @@
--- Reading and writing a record: how the code's steps make up the promise.
+-- Reading and writing a record: what the promises fix, and how the code's steps make up the writer's.
 -- Assumes nothing.
-use mathlib.Core.Path.{_≡_, refl, sym, ap}
+use mathlib.Core.Path.{_≡_, refl, sym, ap, _∙_}
 use mathlib.Core.Bool.{true}
 use mathlib.Core.List.{List}
 use Prim.Native.Nat.{ℕ, zero, suc, _+_, _/_, _≤_}
@@ -10,10 +10,24 @@ use lib.Dec.{ltb}
 use lib.ListN.{length, length-append}
 use Rattle.octets.specs.Bytes.{put}
 use Rattle.octets.proofs.Picks.{none-applies, not-none}
-use Rattle.record.specs.Form.{outBytes, recordOf, partsOk, Parts}
+use Rattle.record.specs.Form as F
+use Rattle.record.specs.Form.{outBytes, parse, recordOf, partsOk}
 use Rattle.record.proofs.PartLaws.{known, kind-few, parts-fit}
 use Rattle.octets.specs.Answers.{sized}
-use Rattle.tumbeliko.specs.Records.{writeRefusal, written, writeBy, writeOf}
+use Rattle.octets.specs.declared.Sized.{Sized}
+use Rattle.tumbeliko.specs.declared.Parts.{Parts}
+use Rattle.tumbeliko.specs.Records.{partsOf, writeRefusal, written, writeBy, writeOf}
+
+-- ---- what a promise fixes is one thing only
+
+pub read-record-one : (s : List ℕ) (x y : Parts) → x ≡ partsOf (parse s) → y ≡ partsOf (parse s) → x ≡ y
+read-record-one s x y e g = e ∙ sym g
+
+pub write-record-one : (kind : ℕ) (root path fragment out : List ℕ) (x y : Sized) (ox oy : List ℕ)
+    → written x ox ≡ writeOf kind root path fragment out → written y oy ≡ writeOf kind root path fragment out → (x ≡ y) × (ox ≡ oy)
+write-record-one kind root path fragment out x y ox oy e g = let z = e ∙ sym g in (ap (λ w. w .answer) z, ap (λ w. w .out) z)
+
+-- ---- writing
 
 module _ (kind : ℕ) (root path fragment out : List ℕ) where
   pub write-refused : (q : ℕ) → (q ≡ 0 → ⊥) → q ≡ writeRefusal kind root path fragment out → written (sized q 0) out ≡ writeOf kind root path fragment out
@@ -33,7 +47,7 @@ module _ (kind : ℕ) (root path fragment out : List ℕ) where
     pub write-kind : kind ≤ 3
     write-kind = kind-few kind (known kind (length root) (length path) (length fragment) write-parts .kind-ok) .1
 
-    pub write-fits : Parts out root (length path / 32) path fragment
+    pub write-fits : F.Parts out root (length path / 32) path fragment
     write-fits = parts-fit kind root path fragment out write-parts write-room
 
     -- 7 bytes of kind and counts, the root, the path and the fragment

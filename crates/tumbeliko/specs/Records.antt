@@ -28,14 +28,17 @@ pub record Written : Type 0 where
   pub answer : Sized
   pub out : List ℕ
 
+-- the answer and the buffer, as one
 abbrev pub written : Sized → List ℕ → Written
 written x o = record { answer = x; out = o }
 
+-- refused and nothing written, or the record written
 unfoldable pub writeBy : ℕ → ℕ → List ℕ → List ℕ → List ℕ → List ℕ → Written
 writeBy (suc q) kind root path fragment out = written (sized (suc q) 0) out
 writeBy zero kind root path fragment out =
     let r = recordOf kind root (length path / 32) path fragment in
     written (sized 0 (length r)) (put 0 r out)
 
+-- "Record writer: 2, 5": the call, whole
 unfoldable pub writeOf : ℕ → List ℕ → List ℕ → List ℕ → List ℕ → Written
 writeOf kind root path fragment out = writeBy (writeRefusal kind root path fragment out) kind root path fragment out

@@ -2,5 +2,6 @@
 use Prim.Native.Nat.{ℕ}
 use Rattle.table.specs.declared.Table.{Table}
 
+-- n, t, S and L
 abbrev pub tableFrom : ℕ → ℕ → ℕ → ℕ → Table
 tableFrom n t sender longest = record { n = n; t = t; sender = sender; longest = longest }

@@ -1,6 +1,6 @@
 -- `code_encode::add_in` meets its contract. The loop's invariant: d bytes are written.
 -- Assumes nothing.
-use mathlib.Core.Path.{_≡_, refl, ap, subst}
+use mathlib.Core.Path.{_≡_, refl, ap, _∙_, subst}
 use Prim.Native.Nat.{ℕ, _+_, _-_, _≤_}
 use native.Mathlib.Omega.{arith}
 use lib.ListN.{length, getD, length-set}
@@ -19,17 +19,20 @@ abbrev μ-loop : tie.MeasureT-loop
 loop-holds : tie.Need-loop-holds Inv-loop μ-loop
 loop-holds c = (omega arith, refl, filled-none _ _ _)
 
+add-t8 : tie.Need-add-t8 Inv-loop μ-loop
+add-t8 c = omega arith
+
+slice-read-t10 : tie.Need-slice-read-t10 Inv-loop μ-loop
+slice-read-t10 c = omega arith
+
+shared-slice-read-t13 : tie.Need-shared-slice-read-t13 Inv-loop μ-loop
+shared-slice-read-t13 c = omega arith
+
+add-requires : tie.Need-add-requires Inv-loop μ-loop
+add-requires c κs = tt
+
 add-area : tie.Need-add-area Inv-loop μ-loop
 add-area c = omega arith
-
-slice-read-area : tie.Need-slice-read-area Inv-loop μ-loop
-slice-read-area c = omega arith
-
-shared-slice-read-area : tie.Need-shared-slice-read-area Inv-loop μ-loop
-shared-slice-read-area c = omega arith
-
-add-area-2 : tie.Need-add-area-2 Inv-loop μ-loop
-add-area-2 c = omega arith
 
 slice-write-area : tie.Need-slice-write-area Inv-loop μ-loop
 slice-write-area c = omega arith
@@ -41,13 +44,12 @@ loop-less : tie.Need-loop-less Inv-loop μ-loop
 loop-less c = omega arith
 
 loop-again : tie.Need-loop-again Inv-loop μ-loop
-unfolding add
 loop-again c =
-    let a = c .before .before .before .before .args in
-    let l = c .before .before .before .loop in (
+    let a = c .before .before .before .before .before .before .before .args in
+    let l = c .before .before .before .before .loop in (
       omega arith,
       simp length-set (l .inv .1),
-      filled-next (a .from) (l .d) _ (λ e. add (getD (a .area .now) (a .from + e) 0) (getD (a .src .now) e 0)) (a .area .now) (l .area) (omega arith) (l .inv .2) (ap (λ (v : ℕ). add v (getD (a .src .now) (l .d) 0)) (l .inv .2 .after (a .from + l .d) (omega arith))),
+      filled-next (a .from) (l .d) _ (λ e. add (getD (a .area .now) (a .from + e) 0) (getD (a .src .now) e 0)) (a .area .now) (l .area) (omega arith) (l .inv .2) (c .add .ensures ∙ ap (λ (v : ℕ). add v (getD (a .src .now) (l .d) 0)) (l .inv .2 .after (a .from + l .d) (omega arith))),
     )
 
 same-length : tie.Need-same-length Inv-loop μ-loop
@@ -55,12 +57,11 @@ same-length c = c .before .loop .inv .1
 
 returns : tie.Need-returns Inv-loop μ-loop
 returns c =
-    let a = c .before .before .args in
+    let a = c .before .before .before .before .args in
     let l = c .before .loop in
     let e : l .d ≡ a .n = omega arith in
     subst (λ (n : ℕ). Filled (a .from) n (λ e. add (getD (a .area .now) (a .from + e) 0) (getD (a .src .now) e 0)) (a .area .now) (l .area)) e (l .inv .2)
 
 pub add-in-spec : {M : Type 1} → statement M
 add-in-spec =
-    tie.close (tie.spec Inv-loop μ-loop loop-holds add-area slice-read-area shared-slice-read-area add-area-2 slice-write-area add-d loop-less
-    loop-again same-length returns)
+    tie.close (tie.spec Inv-loop μ-loop loop-holds add-t8 slice-read-t10 shared-slice-read-t13 add-requires add-area slice-write-area add-d loop-less loop-again same-length returns)

@@ -19,17 +19,17 @@ abbrev μ-loop : tie.MeasureT-loop
 loop-holds : tie.Need-loop-holds Inv-loop μ-loop
 loop-holds c = (omega arith, start _ _ _ (λ j h. absurd (omega arith)))
 
-add-product : tie.Need-add-product Inv-loop μ-loop
-add-product c = omega arith
+add-t7 : tie.Need-add-t7 Inv-loop μ-loop
+add-t7 c = omega arith
 
-add-product-2 : tie.Need-add-product-2 Inv-loop μ-loop
-add-product-2 c = omega arith
+add-t8 : tie.Need-add-t8 Inv-loop μ-loop
+add-t8 c = omega arith
 
-cast-product : tie.Need-cast-product Inv-loop μ-loop
-cast-product c = omega arith
+cast-t9 : tie.Need-cast-t9 Inv-loop μ-loop
+cast-t9 c = omega arith
 
-slice-read-product : tie.Need-slice-read-product Inv-loop μ-loop
-slice-read-product c = omega (arith, c .before .before .loop .inv .1 .size)
+slice-read-t12 : tie.Need-slice-read-t12 Inv-loop μ-loop
+slice-read-t12 c = omega (arith, c .before .before .loop .inv .1 .size)
 
 product-requires : tie.Need-product-requires Inv-loop μ-loop
 product-requires c κs = tt
@@ -48,7 +48,7 @@ loop-again c =
     let a = c .before .before .before .before .before .args in
     let l = c .before .before .before .loop in (
       omega arith,
-      next _ _ (l .i) (l .powers) (c .product .result) (l .inv .1) (omega (arith, l .inv .1 .size)) (c .product .ensures ∙ ap₂ mul (add-one (a .first + l .i)) (l .inv .1 .rest (l .i) (omega arith))),
+      next _ _ (l .i) (l .powers) (c .product .result .0) (l .inv .1) (omega (arith, l .inv .1 .size)) (c .product .ensures ∙ ap₂ mul (add-one (a .first + l .i)) (l .inv .1 .rest (l .i) (omega arith))),
     )
 
 same-length : tie.Need-same-length Inv-loop μ-loop
@@ -59,5 +59,4 @@ returns c = λ i h. c .before .loop .inv .1 .done i (omega arith)
 
 pub raise-powers-spec : {M : Type 1} → statement M
 raise-powers-spec =
-    tie.close (tie.spec Inv-loop μ-loop loop-holds add-product add-product-2 cast-product slice-read-product product-requires slice-write-powers add-i
-    loop-less loop-again same-length returns)
+    tie.close (tie.spec Inv-loop μ-loop loop-holds add-t7 add-t8 cast-t9 slice-read-t12 product-requires slice-write-powers add-i loop-less loop-again same-length returns)

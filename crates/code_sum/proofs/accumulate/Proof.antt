@@ -22,14 +22,14 @@ abbrev μ-loop : tie.MeasureT-loop
 loop-holds : tie.Need-loop-holds Inv-loop μ-loop
 loop-holds c = (omega arith, start _ _ _ (λ k h. absurd (omega arith)))
 
-slice-read-fold : tie.Need-slice-read-fold Inv-loop μ-loop
-slice-read-fold c = omega arith
+slice-read-t10 : tie.Need-slice-read-t10 Inv-loop μ-loop
+slice-read-t10 c = omega arith
 
-add-fold : tie.Need-add-fold Inv-loop μ-loop
-add-fold c = omega arith
+add-t13 : tie.Need-add-t13 Inv-loop μ-loop
+add-t13 c = omega arith
 
-shared-slice-read-fold : tie.Need-shared-slice-read-fold Inv-loop μ-loop
-shared-slice-read-fold c = omega arith
+shared-slice-read-t15 : tie.Need-shared-slice-read-t15 Inv-loop μ-loop
+shared-slice-read-t15 c = omega arith
 
 fold-requires : tie.Need-fold-requires Inv-loop μ-loop
 fold-requires c κs = tt
@@ -59,5 +59,5 @@ returns c =
 
 pub accumulate-spec : {M : Type 1} → statement M
 accumulate-spec =
-    tie.close (tie.spec Inv-loop μ-loop loop-holds slice-read-fold add-fold shared-slice-read-fold fold-requires slice-write-sum add-c loop-less
+    tie.close (tie.spec Inv-loop μ-loop loop-holds slice-read-t10 add-t13 shared-slice-read-t15 fold-requires slice-write-sum add-c loop-less
     loop-again same-length returns)

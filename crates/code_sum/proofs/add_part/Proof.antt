@@ -1,6 +1,6 @@
 -- `code_sum::add_part` meets its contract. The loop's invariant: i bytes are done.
 -- Assumes nothing.
-use mathlib.Core.Path.{_≡_, ap}
+use mathlib.Core.Path.{_≡_, ap, _∙_}
 use mathlib.Core.List.{List}
 use Prim.Native.Nat.{ℕ, _+_, _-_, _≤_}
 use native.Mathlib.Omega.{arith}
@@ -22,14 +22,17 @@ abbrev μ-loop : tie.MeasureT-loop
 loop-holds : tie.Need-loop-holds Inv-loop μ-loop
 loop-holds c = (omega arith, start _ _ _ (λ k h. absurd (omega arith)))
 
-slice-read-sum : tie.Need-slice-read-sum Inv-loop μ-loop
-slice-read-sum c = omega arith
+slice-read-t9 : tie.Need-slice-read-t9 Inv-loop μ-loop
+slice-read-t9 c = omega arith
 
-add-sum : tie.Need-add-sum Inv-loop μ-loop
-add-sum c = omega arith
+add-t11 : tie.Need-add-t11 Inv-loop μ-loop
+add-t11 c = omega arith
 
-shared-slice-read-sum : tie.Need-shared-slice-read-sum Inv-loop μ-loop
-shared-slice-read-sum c = omega arith
+shared-slice-read-t13 : tie.Need-shared-slice-read-t13 Inv-loop μ-loop
+shared-slice-read-t13 c = omega arith
+
+add-requires : tie.Need-add-requires Inv-loop μ-loop
+add-requires c κs = tt
 
 slice-write-sum : tie.Need-slice-write-sum Inv-loop μ-loop
 slice-write-sum c = omega arith
@@ -41,10 +44,9 @@ loop-less : tie.Need-loop-less Inv-loop μ-loop
 loop-less c = omega arith
 
 loop-again : tie.Need-loop-again Inv-loop μ-loop
-unfolding add
 loop-again c =
-    let l = c .before .before .before .loop in
-    let a = c .before .before .before .before .args in (omega arith, next _ _ (l .i) (l .sum) _ (l .inv .1) (omega arith) (ap (λ (v : ℕ). add v (getD (a .src .now) (a .from + l .i) 0)) (l .inv .1 .rest (l .i) (omega arith))))
+    let l = c .before .before .before .before .loop in
+    let a = c .before .before .before .before .before .before .before .args in (omega arith, next _ _ (l .i) (l .sum) _ (l .inv .1) (omega arith) (c .add .ensures ∙ ap (λ (v : ℕ). add v (getD (a .src .now) (a .from + l .i) 0)) (l .inv .1 .rest (l .i) (omega arith))))
 
 same-length : tie.Need-same-length Inv-loop μ-loop
 same-length c = c .before .loop .inv .1 .size
@@ -54,5 +56,4 @@ returns c = λ i h. c .before .loop .inv .1 .done i (omega arith)
 
 pub add-part-spec : {M : Type 1} → statement M
 add-part-spec =
-    tie.close (tie.spec Inv-loop μ-loop loop-holds slice-read-sum add-sum shared-slice-read-sum slice-write-sum add-i loop-less loop-again same-length
-    returns)
+    tie.close (tie.spec Inv-loop μ-loop loop-holds slice-read-t9 add-t11 shared-slice-read-t13 add-requires slice-write-sum add-i loop-less loop-again same-length returns)

@@ -22,17 +22,17 @@ abbrev μ-loop : tie.MeasureT-loop
 loop-holds : tie.Need-loop-holds Inv-loop μ-loop
 loop-holds c = (omega arith, start _ _ _ (λ k h. absurd (omega arith)))
 
-shared-slice-read-product : tie.Need-shared-slice-read-product Inv-loop μ-loop
-shared-slice-read-product c = omega arith
+shared-slice-read-t11 : tie.Need-shared-slice-read-t11 Inv-loop μ-loop
+shared-slice-read-t11 c = omega arith
 
 product-requires : tie.Need-product-requires Inv-loop μ-loop
 product-requires c κs = tt
 
-shared-slice-read-fold : tie.Need-shared-slice-read-fold Inv-loop μ-loop
-shared-slice-read-fold c = omega arith
+shared-slice-read-t15 : tie.Need-shared-slice-read-t15 Inv-loop μ-loop
+shared-slice-read-t15 c = omega arith
 
-slice-read-fold : tie.Need-slice-read-fold Inv-loop μ-loop
-slice-read-fold c = omega arith
+slice-read-t18 : tie.Need-slice-read-t18 Inv-loop μ-loop
+slice-read-t18 c = omega arith
 
 fold-requires : tie.Need-fold-requires Inv-loop μ-loop
 fold-requires c κs = tt
@@ -63,5 +63,4 @@ returns c = λ j h. c .before .loop .inv .1 .done j (omega arith)
 
 pub advance-spec : {M : Type 1} → statement M
 advance-spec =
-    tie.close (tie.spec Inv-loop μ-loop loop-holds shared-slice-read-product product-requires shared-slice-read-fold slice-read-fold fold-requires
-    slice-write-ws add-j loop-less loop-again same-length returns)
+    tie.close (tie.spec Inv-loop μ-loop loop-holds shared-slice-read-t11 product-requires shared-slice-read-t15 slice-read-t18 fold-requires slice-write-ws add-j loop-less loop-again same-length returns)

@@ -33,14 +33,14 @@ loop-holds c = (omega arith, omega arith, start _ _ _ (λ k h. record { kept = �
 add-loop : tie.Need-add-loop Inv-loop μ-loop
 add-loop c = omega arith
 
-slice-read-fold : tie.Need-slice-read-fold Inv-loop μ-loop
-slice-read-fold c = omega arith
+slice-read-t10 : tie.Need-slice-read-t10 Inv-loop μ-loop
+slice-read-t10 c = omega arith
 
-add-fold : tie.Need-add-fold Inv-loop μ-loop
-add-fold c = omega arith
+add-t5 : tie.Need-add-t5 Inv-loop μ-loop
+add-t5 c = omega arith
 
-slice-read-fold-2 : tie.Need-slice-read-fold-2 Inv-loop μ-loop
-slice-read-fold-2 c = omega arith
+slice-read-t14 : tie.Need-slice-read-t14 Inv-loop μ-loop
+slice-read-t14 c = omega arith
 
 fold-requires : tie.Need-fold-requires Inv-loop μ-loop
 fold-requires c κs = tt
@@ -60,7 +60,7 @@ loop-again c =
     let l = c .before .before .before .before .loop in (
       omega arith,
       simp length-set (omega arith),
-      next _ _ (l .i) (l .row) (c .fold .result) (l .inv .2) (omega arith)
+      next _ _ (l .i) (l .row) (c .fold .result .0) (l .inv .2) (omega arith)
           (record {
             kept = λ g. absurd (omega arith);
             each = λ g. c .fold .ensures
@@ -83,5 +83,4 @@ returns c =
 
 pub attach-spec : {M : Type 1} → statement M
 attach-spec =
-    tie.close (tie.spec Inv-loop μ-loop loop-holds add-loop slice-read-fold add-fold slice-read-fold-2 fold-requires slice-write-row add-i loop-less
-    loop-again same-length returns)
+    tie.close (tie.spec Inv-loop μ-loop loop-holds add-loop slice-read-t10 add-t5 slice-read-t14 fold-requires slice-write-row add-i loop-less loop-again same-length returns)

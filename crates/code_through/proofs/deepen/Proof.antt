@@ -18,11 +18,11 @@ abbrev μ-loop : tie.MeasureT-loop
 loop-holds : tie.Need-loop-holds Inv-loop μ-loop
 loop-holds c = (omega arith, start _ _ _ (λ k h. absurd (omega arith)), start _ _ _ (λ k h. absurd (omega arith)))
 
-shared-slice-read-fold : tie.Need-shared-slice-read-fold Inv-loop μ-loop
-shared-slice-read-fold c = omega arith
+shared-slice-read-t11 : tie.Need-shared-slice-read-t11 Inv-loop μ-loop
+shared-slice-read-t11 c = omega arith
 
-slice-read-fold : tie.Need-slice-read-fold Inv-loop μ-loop
-slice-read-fold c = omega (arith, c .before .before .before .loop .inv .1 .size, c .before .before .before .before .before .before .before .pre .0)
+slice-read-t14 : tie.Need-slice-read-t14 Inv-loop μ-loop
+slice-read-t14 c = omega (arith, c .before .before .before .loop .inv .1 .size, c .before .before .before .before .before .before .before .pre .0)
 
 fold-requires : tie.Need-fold-requires Inv-loop μ-loop
 fold-requires c κs = tt
@@ -30,11 +30,11 @@ fold-requires c κs = tt
 slice-write-low : tie.Need-slice-write-low Inv-loop μ-loop
 slice-write-low c = omega (arith, c .before .before .before .before .loop .inv .1 .size, c .before .before .before .before .before .before .before .before .pre .0)
 
-shared-slice-read-fold-2 : tie.Need-shared-slice-read-fold-2 Inv-loop μ-loop
-shared-slice-read-fold-2 c = omega arith
+shared-slice-read-t11-2 : tie.Need-shared-slice-read-t11-2 Inv-loop μ-loop
+shared-slice-read-t11-2 c = omega arith
 
-slice-read-fold-2 : tie.Need-slice-read-fold-2 Inv-loop μ-loop
-slice-read-fold-2 c = omega (arith, c .before .before .before .before .before .before .loop .inv .2 .size, c .before .before .before .before .before .before .before .before .before .before .pre .1)
+slice-read-t14-2 : tie.Need-slice-read-t14-2 Inv-loop μ-loop
+slice-read-t14-2 c = omega (arith, c .before .before .before .before .before .before .loop .inv .2 .size, c .before .before .before .before .before .before .before .before .before .before .pre .1)
 
 fold-requires-2 : tie.Need-fold-requires-2 Inv-loop μ-loop
 fold-requires-2 c κs = tt
@@ -53,8 +53,8 @@ loop-again c =
     let s = c .before .before .before .before .before .before .before .before .before .before .before in let a2 = s .args in let p = s .pre in let a = a2 in let l = c .before .before .before .before .before .before .before .loop in let x = getD (a .points .now) (l .j) 0 in
     let e = c .before .before .before .fold .ensures ∙ ap (λ (v : ℕ). add (a .top) (mul x v)) (l .inv .1 .rest (l .j) (omega arith)) in (
       omega arith,
-      next _ _ (l .j) (l .low) (c .before .before .before .fold .result) (l .inv .1) (omega (arith, l .inv .1 .size, p .0)) e,
-      next _ _ (l .j) (l .ds) (c .fold2 .result) (l .inv .2) (omega (arith, l .inv .2 .size, p .1)) (c .fold2 .ensures ∙ ap (λ (v : ℕ). add v (mul x (getD (l .ds) (l .j) 0))) e ∙ ap (λ (v : ℕ). add (add (a .top) (mul x (getD (a .low .now) (l .j) 0))) (mul x v)) (l .inv .2 .rest (l .j) (omega arith))),
+      next _ _ (l .j) (l .low) (c .before .before .before .fold .result .0) (l .inv .1) (omega (arith, l .inv .1 .size, p .0)) e,
+      next _ _ (l .j) (l .ds) (c .fold2 .result .0) (l .inv .2) (omega (arith, l .inv .2 .size, p .1)) (c .fold2 .ensures ∙ ap (λ (v : ℕ). add v (mul x (getD (l .ds) (l .j) 0))) e ∙ ap (λ (v : ℕ). add (add (a .top) (mul x (getD (a .low .now) (l .j) 0))) (mul x v)) (l .inv .2 .rest (l .j) (omega arith))),
     )
 
 same-length : tie.Need-same-length Inv-loop μ-loop
@@ -68,5 +68,4 @@ returns c = λ j h. let l = c .before .loop in (l .inv .1 .done j (omega arith),
 
 pub deepen-spec : {M : Type 1} → statement M
 deepen-spec =
-    tie.close (tie.spec Inv-loop μ-loop loop-holds shared-slice-read-fold slice-read-fold fold-requires slice-write-low shared-slice-read-fold-2
-    slice-read-fold-2 fold-requires-2 slice-write-ds add-j loop-less loop-again same-length same-length-2 returns)
+    tie.close (tie.spec Inv-loop μ-loop loop-holds shared-slice-read-t11 slice-read-t14 fold-requires slice-write-low shared-slice-read-t11-2 slice-read-t14-2 fold-requires-2 slice-write-ds add-j loop-less loop-again same-length same-length-2 returns)

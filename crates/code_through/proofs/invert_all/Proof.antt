@@ -18,8 +18,8 @@ abbrev μ-loop : tie.MeasureT-loop
 loop-holds : tie.Need-loop-holds Inv-loop μ-loop
 loop-holds c = (omega arith, start _ _ _ (λ k h. absurd (omega arith)))
 
-slice-read-inverse : tie.Need-slice-read-inverse Inv-loop μ-loop
-slice-read-inverse c = omega arith
+slice-read-t7 : tie.Need-slice-read-t7 Inv-loop μ-loop
+slice-read-t7 c = omega arith
 
 inverse-requires : tie.Need-inverse-requires Inv-loop μ-loop
 inverse-requires c κs = tt
@@ -34,7 +34,7 @@ loop-less : tie.Need-loop-less Inv-loop μ-loop
 loop-less c = omega (arith, c .before .before .before .loop .inv .1 .size)
 
 loop-again : tie.Need-loop-again Inv-loop μ-loop
-loop-again c = let l = c .before .before .before .loop in (omega (arith, l .inv .1 .size), next _ _ (l .j) (l .xs) (c .inverse .result) (l .inv .1) (omega arith) (subst (λ (x : ℕ). 0 < x → mul x (c .inverse .result) ≡ 1) (l .inv .1 .rest (l .j) (omega arith)) (c .inverse .ensures)))
+loop-again c = let l = c .before .before .before .loop in (omega (arith, l .inv .1 .size), next _ _ (l .j) (l .xs) (c .inverse .result .0) (l .inv .1) (omega arith) (subst (λ (x : ℕ). 0 < x → mul x (c .inverse .result .0) ≡ 1) (l .inv .1 .rest (l .j) (omega arith)) (c .inverse .ensures)))
 
 same-length : tie.Need-same-length Inv-loop μ-loop
 same-length c = c .before .loop .inv .1 .size
@@ -44,4 +44,4 @@ returns c = λ j h. c .before .loop .inv .1 .done j (omega (arith, c .before .lo
 
 pub invert-all-spec : {M : Type 1} → statement M
 invert-all-spec =
-    tie.close (tie.spec Inv-loop μ-loop loop-holds slice-read-inverse inverse-requires slice-write-xs add-j loop-less loop-again same-length returns)
+    tie.close (tie.spec Inv-loop μ-loop loop-holds slice-read-t7 inverse-requires slice-write-xs add-j loop-less loop-again same-length returns)

@@ -13,7 +13,7 @@ use Rattle.code_through.proofs.value_at.Statement.{statement}
 use Rattle.code_through.proofs.value_at.Tie as tie
 
 abbrev Inv-loop : tie.InvT-loop
-Inv-loop row z v₀ j₀ v j = (j ≤ length row) × (v ≡ value (drop j row) z)
+Inv-loop row z v₀ j₀ v j = (j ≤ length row) × (v .0 ≡ value (drop j row) z)
 
 abbrev μ-loop : tie.MeasureT-loop
 μ-loop row z v₀ j₀ v j = j
@@ -24,22 +24,21 @@ loop-holds c = (omega arith, sym (value-none (c .before .args .row .now) (c .bef
 sub-j : tie.Need-sub-j Inv-loop μ-loop
 sub-j c = omega arith
 
-shared-slice-read-v : tie.Need-shared-slice-read-v Inv-loop μ-loop
-shared-slice-read-v c = omega arith
+shared-slice-read-t7 : tie.Need-shared-slice-read-t7 Inv-loop μ-loop
+shared-slice-read-t7 c = omega arith
 
-product-requires : tie.Need-product-requires Inv-loop μ-loop
-product-requires c κs = tt
+fold-requires : tie.Need-fold-requires Inv-loop μ-loop
+fold-requires c κs = tt
 
 loop-less : tie.Need-loop-less Inv-loop μ-loop
 loop-less c = omega arith
 
 loop-again : tie.Need-loop-again Inv-loop μ-loop
-unfolding add
 loop-again c =
     let a = c .before .before .before .before .before .args in
     let l = c .before .before .before .loop in (
       omega arith,
-      ap (add (getD (a .row .now) (l .j - 1) 0)) (c .product .ensures ∙ ap (mul (a .z)) (l .inv .1)) ∙ sym (value-next (a .row .now) (a .z) (l .j)
+      c .fold .ensures ∙ ap (λ (v : ℕ). add (getD (a .row .now) (l .j - 1) 0) (mul (a .z) v)) (l .inv .1) ∙ sym (value-next (a .row .now) (a .z) (l .j)
           (omega arith) (l .inv .0)),
     )
 
@@ -52,4 +51,4 @@ returns c =
 
 pub value-at-spec : {M : Type 1} → statement M
 value-at-spec =
-    tie.close (tie.spec Inv-loop μ-loop loop-holds sub-j shared-slice-read-v product-requires loop-less loop-again returns)
+    tie.close (tie.spec Inv-loop μ-loop loop-holds sub-j shared-slice-read-t7 fold-requires loop-less loop-again returns)

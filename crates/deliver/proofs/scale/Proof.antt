@@ -19,8 +19,8 @@ abbrev μ-loop : tie.MeasureT-loop
 loop-holds : tie.Need-loop-holds Inv-loop μ-loop
 loop-holds c = (omega arith, start _ _ _ (λ k h. absurd (omega arith)))
 
-shared-slice-read-product : tie.Need-shared-slice-read-product Inv-loop μ-loop
-shared-slice-read-product c = omega (arith, c .before .before .before .before .before .before .before .pre .0 .scales)
+shared-slice-read-t12 : tie.Need-shared-slice-read-t12 Inv-loop μ-loop
+shared-slice-read-t12 c = omega (arith, c .before .before .before .before .before .before .before .pre .0 .scales)
 
 shared-slice-read-cell-at : tie.Need-shared-slice-read-cell-at Inv-loop μ-loop
 shared-slice-read-cell-at c = omega arith
@@ -43,7 +43,7 @@ loop-less c = omega arith
 loop-again : tie.Need-loop-again Inv-loop μ-loop
 loop-again c =
     let a = c .before .before .before .before .before .before .before .before .before .before .args in let l = c .before .before .before .before .before .loop in
-    (omega arith, next _ _ (l .j) (l .es) (c .product .result) (l .inv .1) (omega (arith, l .inv .1 .size, c .before .before .before .before .before .before .before .before .before .before .pre .2)) (c .product .ensures ∙ ap (mul (getD (a .ds .now) (l .j) 0)) (c .before .cell-at .ensures)))
+    (omega arith, next _ _ (l .j) (l .es) (c .product .result .0) (l .inv .1) (omega (arith, l .inv .1 .size, c .before .before .before .before .before .before .before .before .before .before .pre .2)) (c .product .ensures ∙ ap (mul (getD (a .ds .now) (l .j) 0)) (c .before .cell-at .ensures)))
 
 same-length : tie.Need-same-length Inv-loop μ-loop
 same-length c = c .before .loop .inv .1 .size
@@ -53,5 +53,4 @@ returns c = λ j h. c .before .loop .inv .1 .done j (omega arith)
 
 pub scale-spec : {M : Type 1} → statement M
 scale-spec =
-    tie.close (tie.spec Inv-loop μ-loop loop-holds shared-slice-read-product shared-slice-read-cell-at cell-at-requires product-requires
-    slice-write-es add-j loop-less loop-again same-length returns)
+    tie.close (tie.spec Inv-loop μ-loop loop-holds shared-slice-read-t12 shared-slice-read-cell-at cell-at-requires product-requires slice-write-es add-j loop-less loop-again same-length returns)

@@ -1,4 +1,5 @@
-use Rattle.drill_step.proofs.Handed.{sent-front}
+use Rattle.octets.specs.Bytes.{part}
+use Rattle.board_send.proofs.Sends.{sent-front}
 use borrow.Author.Needs.{needs}
 use Rattle.drill_step.proofs.hand_send.Statement.{statement}
 use Rattle.drill_step.proofs.hand_send.Tie as tie
@@ -13,6 +14,7 @@ same-length : tie.Need-same-length
 same-length c = search needs
 
 returns : tie.Need-returns
+unfolding part
 returns c =
     let s = c .before .before .before .before .before .before .before in let a = s .args in let p = s .pre in let f = sent-front (a .b) (a .message .now) (a .to) (a .handed .now) (p .0) (p .1) (p .2) (p .3) (c .before .before .before .send .result) _ (c .before .before .before .send .ensures) in (f .record-front, f .most)
 

@@ -22,8 +22,8 @@ abbrev μ-loop : tie.MeasureT-loop
 loop-holds : tie.Need-loop-holds Inv-loop μ-loop
 loop-holds c = (omega arith, start _ _ _ (λ k h. absurd (omega arith)))
 
-slice-read-twice : tie.Need-slice-read-twice Inv-loop μ-loop
-slice-read-twice c = omega arith
+slice-read-t7 : tie.Need-slice-read-t7 Inv-loop μ-loop
+slice-read-t7 c = omega arith
 
 twice-requires : tie.Need-twice-requires Inv-loop μ-loop
 twice-requires c κs = tt
@@ -49,4 +49,4 @@ returns c = λ i h. c .before .loop .inv .1 .done i (omega arith)
 
 pub double-all-spec : {M : Type 1} → statement M
 double-all-spec =
-    tie.close (tie.spec Inv-loop μ-loop loop-holds slice-read-twice twice-requires slice-write-s add-i loop-less loop-again same-length returns)
+    tie.close (tie.spec Inv-loop μ-loop loop-holds slice-read-t7 twice-requires slice-write-s add-i loop-less loop-again same-length returns)

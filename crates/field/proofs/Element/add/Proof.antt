@@ -1,4 +1,4 @@
--- `gf::Element::add` meets its contract.
+-- `field::Element::add` meets its contract.
 -- Assumes nothing.
 use mathlib.Core.Path.{refl}
 use Rattle.field.specs.Field.{add}

@@ -1,4 +1,4 @@
--- `gf::Element::power` meets its contract, by the rule of the table of powers.
+-- `field::Element::power` meets its contract, by the rule of the table of powers.
 -- Assumes nothing.
 use borrow.Author.Needs.{needs}
 use mathlib.Core.Path.{_∙_}
@@ -7,15 +7,9 @@ use Rattle.field.proofs.Powers.{powers-at}
 use Rattle.field.proofs.Element.power.Statement.{statement}
 use Rattle.field.proofs.Element.power.Tie as tie
 
-turn-requires : tie.Need-turn-requires
-turn-requires c κs = search needs
-
-array-read-t6 : tie.Need-array-read-t6
-array-read-t6 c = search needs
-
 returns : tie.Need-returns
 unfolding powers
 returns c = powers-at (c .turn .result) (c .turn .ensures .0) ∙ c .turn .ensures .1
 
 pub power-spec : {M : Type 1} → statement M
-power-spec = tie.close (tie.spec turn-requires array-read-t6 returns)
+power-spec = tie.close (tie.spec (λ c κs. search needs) (λ c. search needs) returns)
