@@ -1,4 +1,4 @@
--- What is kept of a record leaves the table, the own number, the marks and the length of the state alone.
+-- What is kept of a record leaves the table, the own number and the length of the state alone; so does a step.
 use mathlib.Core.Path.{_≡_, refl, _∙_}
 use Prim.Native.Nat.{ℕ, _-_}
 use mathlib.Core.List.{List}

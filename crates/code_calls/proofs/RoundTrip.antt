@@ -100,10 +100,10 @@ rebuild-back b message old lengths out marked fits bytes m =
     some-rows pos (suc r) e = omega arith
 
 -- from the message's block, the message
-pub message-back : (b : Table) (message room : List ℕ) → limits b ≡ true → length message ≤ b .longest → b .longest ≤ length room
+pub read-message-back : (b : Table) (message room : List ℕ) → limits b ≡ true → length message ≤ b .longest → b .longest ≤ length room
     → readOf b (block (kOf b) message) room ≡ readOut (sized 0 (length message)) (put 0 message room)
 unfolding readOf readBy readRefusal pick
-message-back b message room limited fits long =
+read-message-back b message room limited fits long =
     let w = within b limited in
     let p = k-pos b w in
     let short = N.le-trans fits (w .short) in
@@ -138,5 +138,5 @@ round-trip b message area root paths bytes x area' root' paths' e accepted marke
     ) in
     let front : part 0 (r .length) out' ≡ block (kOf b) message = rw (p, q) (part-put 0 (length (block (kOf b) message)) (block (kOf b) message) out refl short) in
     let z : readOut y room' ≡ readOut (sized 0 (length message)) (put 0 message room) =
-    f ∙ ap (λ (d : List ℕ). readOf b d room) front ∙ message-back b message room (m .limited) fits long in
+    f ∙ ap (λ (d : List ℕ). readOf b d room) front ∙ read-message-back b message room (m .limited) fits long in
     (p, q, ap (λ (v : ReadOut). v .answer) z, ap (λ (v : ReadOut). v .message) z)

@@ -12,7 +12,7 @@ use Rattle.board.specs.Planned.{planOf}
 use Rattle.board_step.specs.Step.{stepOf}
 use Rattle.line.specs.Run.{hand}
 use Rattle.line_fragments.specs.Step.{Line, BoardState, Act, act, afterAct}
-use Rattle.line_fragments.specs.Step as Spread
+use Rattle.line_fragments.specs.Step as Fragments
 use Rattle.line_fragments.specs.Hashed.{hashedBy}
 use Rattle.line_code.specs.Parts.{bytes, codeOf, lineOf}
 use Rattle.line_demand.specs.Boards.{putIn, givenIn}
@@ -36,8 +36,8 @@ module _ (b : Table) (own : ℕ) (s : List ℕ) (from : ℕ) (r o d : List ℕ) 
 
   pub record Agrees : Type 0 where
     pub shows : shownOf b own (marksOf (stepOf s from r o d .state)) (stepOf s from r o d .state) ≡ afterAct B S a
-    pub puts : putIn (stepOf s from r o d) ≡ Spread.putsOut B S a
-    pub gives : givenIn (stepOf s from r o d) ≡ Spread.give B S a
+    pub puts : putIn (stepOf s from r o d) ≡ Fragments.putsOut B S a
+    pub gives : givenIn (stepOf s from r o d) ≡ Fragments.give B S a
     pub hashes : (y : List ℕ) → hashedBy B S a y → List·Memᴰ y (planStrings (planOf s from r o d) s from r)
 
 module _ (s : List ℕ) (so : sound (view s) ≡ true) (from : ℕ) (r o d : List ℕ) (is-bytes : bytes r ≡ true) (ho : outBytes ≤ length o) where

@@ -24,7 +24,7 @@ use Rattle.line.specs.Run.{Machine, Input, In, hand, tell}
 use Rattle.line.proofs.Projected.{Carries}
 use Rattle.line.proofs.Tests.{none-some}
 use Rattle.line_fragments.specs.Step.{Line, BoardState, refuse, act, afterAct}
-use Rattle.line_fragments.specs.Step as Spread
+use Rattle.line_fragments.specs.Step as Fragments
 use Rattle.line_code.specs.Parts.{bytes, codeOf, lineOf, readRecord}
 use Rattle.line_demand.specs.Boards.{Desk, Lend, Roomy, longEnough, lends, stepAt, deskOf, putIn, givenIn, next, puts, gives, begin, boards}
 use Rattle.line_demand.proofs.Shown.{shownOf}
@@ -128,20 +128,20 @@ module _ (b : Table) where
         go true e = goes-on e
         go false e = rw (not-read x i r e) h
 
-    put-same : pick (bytes r) (putIn (stepAt d i r)) none ≡ Spread.putsOut B x (act B x (hand i r))
+    put-same : pick (bytes r) (putIn (stepAt d i r)) none ≡ Fragments.putsOut B x (act B x (hand i r))
     unfolding pick
     put-same = go (bytes r) refl
       where
-        go : (c : Bool) → bytes r ≡ c → pick c (putIn (stepAt d i r)) none ≡ Spread.putsOut B x (act B x (hand i r))
-        go true e = agreed e .puts ∙ ap (λ (y : BoardState B). Spread.putsOut B y (act B y (hand i r))) (h .shows)
+        go : (c : Bool) → bytes r ≡ c → pick c (putIn (stepAt d i r)) none ≡ Fragments.putsOut B x (act B x (hand i r))
+        go true e = agreed e .puts ∙ ap (λ (y : BoardState B). Fragments.putsOut B y (act B y (hand i r))) (h .shows)
         go false e = rw (not-read x i r e)
 
-    give-same : pick (bytes r) (givenIn (stepAt d i r)) none ≡ Spread.give B x (act B x (hand i r))
+    give-same : pick (bytes r) (givenIn (stepAt d i r)) none ≡ Fragments.give B x (act B x (hand i r))
     unfolding pick
     give-same = go (bytes r) refl
       where
-        go : (c : Bool) → bytes r ≡ c → pick c (givenIn (stepAt d i r)) none ≡ Spread.give B x (act B x (hand i r))
-        go true e = agreed e .gives ∙ ap (λ (y : BoardState B). Spread.give B y (act B y (hand i r))) (h .shows)
+        go : (c : Bool) → bytes r ≡ c → pick c (givenIn (stepAt d i r)) none ≡ Fragments.give B x (act B x (hand i r))
+        go true e = agreed e .gives ∙ ap (λ (y : BoardState B). Fragments.give B y (act B y (hand i r))) (h .shows)
         go false e = rw (not-read x i r e)
 
   -- other buffers are lent

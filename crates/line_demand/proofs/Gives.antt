@@ -17,7 +17,7 @@ use Rattle.board_step.specs.Step.{placeOf, good, saidBy, takenOf, byPlan}
 use Rattle.board_step.specs.Step as Step
 use Rattle.board_step.proofs.Taking.{limited}
 use Rattle.line_fragments.specs.Step.{vote, Line, BoardState, Act, take}
-use Rattle.line_fragments.specs.Step as Spread
+use Rattle.line_fragments.specs.Step as Fragments
 use Rattle.line_code.specs.Parts.{codeOf, lineOf}
 use Rattle.line_demand.specs.Boards.{givenIn}
 use Rattle.line_demand.proofs.Shown.{shownOf}
@@ -50,26 +50,26 @@ module _ (s : List ℕ) (from : ℕ) (r o d : List ℕ) where
       given-is (endsNow b (not (eqb k 1)) m s1 (recordRoot r)) (Step.resultIn b m s1 (recordRoot r)) d
       (λ y e. omega (arith, message-fits b (ownOf s) m s1 (recordRoot r) (inside s from r o d k p f t ok) (limited s from r o d k p f t) y e, t .delivery))
 
-  send-gives : (p f : ℕ) → Taken s from r o d 1 p f → givenIn (takenOf 1 p f s from r o d) ≡ Spread.give B S (take from (sendIn r p f))
+  send-gives : (p f : ℕ) → Taken s from r o d 1 p f → givenIn (takenOf 1 p f s from r o d) ≡ Fragments.give B S (take from (sendIn r p f))
   unfolding endsNow pick
   send-gives p f t = give-at 1 p f t
 
-  echo-gives : (p f : ℕ) → Taken s from r o d 2 p f → givenIn (takenOf 2 p f s from r o d) ≡ Spread.give B S (take from (echoIn r p f))
+  echo-gives : (p f : ℕ) → Taken s from r o d 2 p f → givenIn (takenOf 2 p f s from r o d) ≡ Fragments.give B S (take from (echoIn r p f))
   unfolding good placeOf pick
   echo-gives p f t =
       let ok = correct s from r o d p f in
       give-at 2 p f t
       ∙ given-half b (ownOf s) (markedBy s from r o d 2 ok) (keptBy s from r o d 2 p f) (recordRoot r) (inside s from r o d 2 p f t ok) (limited s from r o d 2 p f t)
-      ∙ ap (λ (x : BoardState B). Spread.resultAt B x (recordRoot r)) (half-echo s from r o d p f t)
+      ∙ ap (λ (x : BoardState B). Fragments.resultAt B x (recordRoot r)) (half-echo s from r o d p f t)
 
-  vote-gives : (p f : ℕ) → Taken s from r o d 3 p f → givenIn (takenOf 3 p f s from r o d) ≡ Spread.give B S (take from (vote (recordRoot r)))
+  vote-gives : (p f : ℕ) → Taken s from r o d 3 p f → givenIn (takenOf 3 p f s from r o d) ≡ Fragments.give B S (take from (vote (recordRoot r)))
   vote-gives p f t =
       let ok = good 3 p f from r s in
       give-at 3 p f t
       ∙ given-half b (ownOf s) (markedBy s from r o d 3 ok) (keptBy s from r o d 3 p f) (recordRoot r) (inside s from r o d 3 p f t ok) (limited s from r o d 3 p f t)
-      ∙ ap (λ (x : BoardState B). Spread.resultAt B x (recordRoot r)) (half-vote s from r o d p f t ok)
+      ∙ ap (λ (x : BoardState B). Fragments.resultAt B x (recordRoot r)) (half-vote s from r o d p f t ok)
 
-  pub gives-by : (x : Plan) (a : Act B) → planOf s from r o d ≡ x → Follow b from r x a → givenIn (byPlan x s from r o d) ≡ Spread.give B S a
+  pub gives-by : (x : Plan) (a : Act B) → planOf s from r o d ≡ x → Follow b from r x a → givenIn (byPlan x s from r o d) ≡ Fragments.give B S a
   unfolding byPlan
   gives-by x a e refuses = refl
   gives-by x a e (sends {p} {f}) = send-gives p f (taken s from r o d 1 p f e)

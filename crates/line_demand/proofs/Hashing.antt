@@ -16,7 +16,7 @@ use Rattle.board.proofs.Taken.{Taken, taken}
 use Rattle.board_step.specs.Step.{placeOf, good}
 use Rattle.board_step.proofs.Taking.{limited}
 use Rattle.line_fragments.specs.Step.{vote, Line, BoardState, Act, take}
-use Rattle.line_fragments.specs.Step as Spread
+use Rattle.line_fragments.specs.Step as Fragments
 use Rattle.line_fragments.specs.Hashed.{freshIn, hashedBy}
 use Rattle.line_code.specs.Parts.{codeOf, lineOf}
 use Rattle.octets.proofs.Picks.{is-true}
@@ -48,7 +48,7 @@ module _ (s : List ℕ) (from : ℕ) (r o d : List ℕ) where
       let m = markedBy s from r o d k ok in
       let s1 = keptBy s from r o d k p f in
       let i = inside s from r o d k p f t ok in
-      let e : endsNow b true m s1 (recordRoot r) ≡ true = ends-is b (ownOf s) m s1 (recordRoot r) i ∙ is-true (Spread.ends B (half b (ownOf s) m s1 (recordRoot r) i) (recordRoot r)) h in
+      let e : endsNow b true m s1 (recordRoot r) ≡ true = ends-is b (ownOf s) m s1 (recordRoot r) i ∙ is-true (Fragments.ends B (half b (ownOf s) m s1 (recordRoot r) i) (recordRoot r)) h in
       let z : endsNow b (not (eqb k 1)) m s1 (recordRoot r) ≡ true = ap (λ (c : Bool). endsNow b (not c) m s1 (recordRoot r)) word ∙ e in
       rw z (fresh-half b (ownOf s) m s1 (recordRoot r) i (limited s from r o d k p f t) e y q)
 

@@ -26,7 +26,7 @@ use Rattle.line.specs.Core.{Word, Core, setAt, setWord}
 use Rattle.line.specs.Core as Core
 use Rattle.line.proofs.Tests.{off}
 use Rattle.line_fragments.specs.Step.{send, echo, vote, Line, BoardState, take, afterAct}
-use Rattle.line_fragments.specs.Step as Spread
+use Rattle.line_fragments.specs.Step as Fragments
 use Rattle.line_code.specs.Parts.{codeOf, lineOf}
 use Rattle.line_demand.proofs.Shown.{spokeIn, setIn, rootAt, coreOf, fragmentIn, shownOf}
 use Rattle.line_demand.proofs.Settled.{usable-inside, echo-below, vote-below, length-below, half}
@@ -117,7 +117,7 @@ module _ (b : Table) (own : ℕ) (m : Marks) (s : List ℕ) (g : Sounds (viewOf 
 
     module _ (inside : (j : ℕ) → has (mE .usable) j ≡ true → has (mE .echoes) j ≡ true) where
       -- what is kept of it, and whether a vote is due
-      pub echo-half : half b own mE sE root inside ≡ Spread.keepAct B S (take (suc i) (echo root path fragment))
+      pub echo-half : half b own mE sE root inside ≡ Fragments.keepAct B S (take (suc i) (echo root path fragment))
       unfolding marked
       echo-half = λ x. record {
         own = own;
@@ -165,7 +165,7 @@ module _ (b : Table) (own : ℕ) (m : Marks) (s : List ℕ) (g : Sounds (viewOf 
         ∙ vote-fragment i root s (place i hi) lr long (fragmentAt (sMax b) j) (twoAt s (lenAt j)) (omega arith))
 
     module _ (inside : (j : ℕ) → has (mV .usable) j ≡ true → has (mV .echoes) j ≡ true) where
-      pub vote-half : half b own mV sV root inside ≡ Spread.keepAct B S (take (suc i) (vote root))
+      pub vote-half : half b own mV sV root inside ≡ Fragments.keepAct B S (take (suc i) (vote root))
       unfolding marked pick
       vote-half = λ x. record {
         own = own;

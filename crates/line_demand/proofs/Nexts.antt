@@ -30,7 +30,7 @@ use Rattle.board_step.proofs.Taking.{formed, long-still}
 use Rattle.line.specs.Core.{Word}
 use Rattle.line.specs.Core as Core
 use Rattle.line_fragments.specs.Step.{echo, vote, Line, BoardState, Act, take, settle, afterAct}
-use Rattle.line_fragments.specs.Step as Spread
+use Rattle.line_fragments.specs.Step as Fragments
 use Rattle.line_code.specs.Parts.{codeOf, lineOf}
 use Rattle.line_demand.proofs.Shown.{setIn, rootAt, coreOf, fragmentIn, shownOf}
 use Rattle.line_demand.proofs.Settled.{usable-inside, half, settled-is}
@@ -146,10 +146,10 @@ module _ (s : List ℕ) (from : ℕ) (r o d : List ℕ) where
       (root-whole 2 p f t) (fragment-whole 2 p f t) (t .allowed .short) (small 2 p f t) (room 2 p f t) (first-echo p f t))
 
   pub half-echo : (p f : ℕ) (t : Taken s from r o d 2 p f)
-      → half b own (markedBy 2 (correct p f)) (keptBy 2 p f) (recordRoot r) (inside 2 p f t (correct p f)) ≡ Spread.keepAct B S (take from (echoIn r p f))
+      → half b own (markedBy 2 (correct p f)) (keptBy 2 p f) (recordRoot r) (inside 2 p f t (correct p f)) ≡ Fragments.keepAct B S (take from (echoIn r p f))
   unfolding kept pick
   half-echo p f t =
-      subst (λ x. half b own (markedBy 2 (correctAt p f x)) (keptBy 2 p f) (recordRoot r) (inside 2 p f t (correctAt p f x)) ≡ Spread.keepAct B S (take x (echoIn r p f)))
+      subst (λ x. half b own (markedBy 2 (correctAt p f x)) (keptBy 2 p f) (recordRoot r) (inside 2 p f t (correctAt p f x)) ≡ Fragments.keepAct B S (take x (echoIn r p f)))
       (number-is 2 p f t)
       (echo-half b own (marksOf s) s (before 2 p f t) (t .long) (from - 1) f (recordRoot r) (recordPath p r) (recordFragment p f r) (here 2 p f t)
       (root-whole 2 p f t) (fragment-whole 2 p f t) (t .allowed .short) (small 2 p f t) (room 2 p f t) (first-echo p f t) (inside 2 p f t _))
@@ -162,10 +162,10 @@ module _ (s : List ℕ) (from : ℕ) (r o d : List ℕ) where
       (vote-core b own (marksOf s) s (before 3 p f t) (t .long) (from - 1) (recordRoot r) (here 3 p f t) (root-whole 3 p f t) ok)
 
   pub half-vote : (p f : ℕ) (t : Taken s from r o d 3 p f) (ok : Bool)
-      → half b own (markedBy 3 ok) (keptBy 3 p f) (recordRoot r) (inside 3 p f t ok) ≡ Spread.keepAct B S (take from (vote (recordRoot r)))
+      → half b own (markedBy 3 ok) (keptBy 3 p f) (recordRoot r) (inside 3 p f t ok) ≡ Fragments.keepAct B S (take from (vote (recordRoot r)))
   unfolding kept pick
   half-vote p f t ok =
-      subst (λ x. half b own (markedBy 3 ok) (keptBy 3 p f) (recordRoot r) (inside 3 p f t ok) ≡ Spread.keepAct B S (take x (vote (recordRoot r)))) (number-is 3 p f t)
+      subst (λ x. half b own (markedBy 3 ok) (keptBy 3 p f) (recordRoot r) (inside 3 p f t ok) ≡ Fragments.keepAct B S (take x (vote (recordRoot r)))) (number-is 3 p f t)
       (vote-half b own (marksOf s) s (before 3 p f t) (t .long) (from - 1) (recordRoot r) (here 3 p f t) (root-whole 3 p f t) ok (inside 3 p f t ok))
 
   -- the three kinds

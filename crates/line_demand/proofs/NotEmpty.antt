@@ -1,5 +1,5 @@
--- The premises of demand 3 can be met: two runs of the boards that C calls, n 4, t 1, S 1, L 16. In one a message is delivered by all, in the
--- other void is delivered by all that keep the rules, as the sender lies.
+-- The premises of demand 3 can be met: runs of the boards that C calls, n 4, t 1, S 1, L 16. A message is delivered by all, or by all but a board that
+-- breaks the rules; void is delivered by all that keep the rules, as the sender lies.
 use Prim.Native.Nat.{ℕ}
 use native.Mathlib.Omega.{arith}
 use mathlib.Core.Bool.{Bool, _&&_}
@@ -46,9 +46,12 @@ pub record Met (keeps : ℕ → Bool) (m : List ℕ) (d : Option (List ℕ)) : T
   pub over : Over (boards small blank) keeps (Sends small m) run
   pub delivered : (j : ℕ) → T (keeps j) → Delivered (boards small blank) j d run
 
--- all four boards; all but the sender
+-- all four boards; all but board 4; all but the sender
 abbrev pub all : ℕ → Bool
 all i = leb 1 i && leb i 4
+
+abbrev pub three : ℕ → Bool
+three i = leb 1 i && leb i 3
 
 abbrev pub others : ℕ → Bool
 others i = leb 2 i && leb i 4
@@ -62,6 +65,13 @@ others-known i h = let two = leb→le 2 i (left (leb 2 i) _ h) in record { low =
 all-keep : Keepers 4 1 all
 unfolding count
 all-keep = record { third = omega arith; known = all-known; few = omega arith }
+
+three-known : (i : ℕ) → T (three i) → Board 4 i
+three-known i h = let few = leb→le i 3 (right (leb 1 i) _ h) in record { low = leb→le 1 i (left (leb 1 i) _ h); high = omega arith }
+
+three-keep : Keepers 4 1 three
+unfolding count
+three-keep = record { third = omega arith; known = three-known; few = omega arith }
 
 others-keep : Keepers 4 1 others
 unfolding count
@@ -81,14 +91,22 @@ met {v} {f} {π} G keeps K m d sends only is = record {
   delivered = λ j kj. run-delivers blank blank-roomy G d is j (K .known j kj);
 }
 
--- all four keep the rules, and the message of the sender is delivered by all
-pub message-run : (m : List ℕ) → Sendable small m → Met all m (some m)
-message-run m fits =
+-- the sender keeps the rules, and its message is delivered by all that do
+kept-run : (keeps : ℕ → Bool) → Keepers 4 1 keeps → (m : List ℕ) → Sendable small m → Met keeps m (some m)
+kept-run keeps K m fits =
     let A = line-laws small small-limits in
     let L = code-laws small small-limits in
-    met (encoded A L (mail-laws small small-limits) m fits) all all-keep m (some m)
+    met (encoded A L (mail-laws small small-limits) m fits) keeps K m (some m)
     (λ j b ks. of-mail small small-limits m fits 1 j _ (refl, b, refl))
     (λ i j ρ ki s. let (e, b, q) = to-mail small small-limits m fits i j ρ s in (e, q)) (message-back A L (mail-laws small small-limits) m fits)
+
+-- all four keep the rules
+pub message-run : (m : List ℕ) → Sendable small m → Met all m (some m)
+message-run = kept-run all all-keep
+
+-- board 4 breaks them: whatever the premises say of it, it need not deliver
+pub three-run : (m : List ℕ) → Sendable small m → Met three m (some m)
+three-run = kept-run three three-keep
 
 pub message-41 : Met all (0x41 ∷ []) (some (0x41 ∷ []))
 unfolding bytes

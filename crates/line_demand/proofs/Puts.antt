@@ -24,7 +24,7 @@ use Rattle.board_step.proofs.Taking.{formed}
 use Rattle.line.specs.Core.{Word, Core}
 use Rattle.line.specs.Core as Core
 use Rattle.line_fragments.specs.Step.{echo, vote, Line, BoardState, Act, take, voteOut}
-use Rattle.line_fragments.specs.Step as Spread
+use Rattle.line_fragments.specs.Step as Fragments
 use Rattle.line_code.specs.Parts.{codeOf, lineOf, writeRecord}
 use Rattle.line_demand.specs.Boards.{recordIn, putIn}
 use Rattle.line_demand.proofs.Shown.{coreOf, shownOf, due-is}
@@ -118,25 +118,25 @@ module _ (s : List ℕ) (from : ℕ) (r o d : List ℕ) where
       ∙ ap (λ (x : Bool). not (marksOf s .voted) && x)
       (due-is b (markedBy s from r o d k ok) (keptBy s from r o d k p f) (recordRoot r) ∙ ap (λ (c : Core (List ℕ)). Core.due (b .n) (b .t) same c (recordRoot r)) q)
 
-  send-puts : (p f : ℕ) → Taken s from r o d 1 p f → putIn (takenOf 1 p f s from r o d) ≡ Spread.putsOut B S (take from (sendIn r p f))
+  send-puts : (p f : ℕ) → Taken s from r o d 1 p f → putIn (takenOf 1 p f s from r o d) ≡ Fragments.putsOut B S (take from (sendIn r p f))
   unfolding good placeOf pick
   send-puts p f t =
       put-at 1 p f t
       ∙ echo-out r p f (formed s from r o d 1 p f t) (good 1 p f from r s) (votesBy 1 (good 1 p f from r s) p f) (send-quiet (good 1 p f from r s) p f)
 
-  echo-puts : (p f : ℕ) → Taken s from r o d 2 p f → putIn (takenOf 2 p f s from r o d) ≡ Spread.putsOut B S (take from (echoIn r p f))
+  echo-puts : (p f : ℕ) → Taken s from r o d 2 p f → putIn (takenOf 2 p f s from r o d) ≡ Fragments.putsOut B S (take from (echoIn r p f))
   unfolding good placeOf pick
   echo-puts p f t =
       put-at 2 p f t ∙ vote-out r p f (formed s from r o d 2 p f t) b (votesBy 2 (correct s from r o d p f) p f)
       ∙ ap (λ (c : Bool). voteOut B (pick c (some (recordRoot r)) none)) (word-votes Word.echo 2 refl (correct s from r o d p f) p f (core-echo s from r o d p f t))
 
-  vote-puts : (p f : ℕ) → Taken s from r o d 3 p f → putIn (takenOf 3 p f s from r o d) ≡ Spread.putsOut B S (take from (vote (recordRoot r)))
+  vote-puts : (p f : ℕ) → Taken s from r o d 3 p f → putIn (takenOf 3 p f s from r o d) ≡ Fragments.putsOut B S (take from (vote (recordRoot r)))
   vote-puts p f t =
       put-at 3 p f t ∙ vote-out r p f (formed s from r o d 3 p f t) b (votesBy 3 (good 3 p f from r s) p f)
       ∙ ap (λ (c : Bool). voteOut B (pick c (some (recordRoot r)) none))
       (word-votes Word.vote 3 refl (good 3 p f from r s) p f (core-vote s from r o d p f t (good 3 p f from r s)))
 
-  pub puts-by : (x : Plan) (a : Act B) → planOf s from r o d ≡ x → Follow b from r x a → putIn (byPlan x s from r o d) ≡ Spread.putsOut B S a
+  pub puts-by : (x : Plan) (a : Act B) → planOf s from r o d ≡ x → Follow b from r x a → putIn (byPlan x s from r o d) ≡ Fragments.putsOut B S a
   unfolding byPlan
   puts-by x a e refuses = refl
   puts-by x a e (sends {p} {f}) = send-puts p f (taken s from r o d 1 p f e)

@@ -28,7 +28,7 @@ use Rattle.board_step.specs.Step.{usableFor, keptOf, delivered}
 use Rattle.board_step.specs.Step as Step
 use Rattle.board_step.proofs.Due.{usable-few, usable-in, usable-enough}
 use Rattle.line_fragments.specs.Step.{Line}
-use Rattle.line_fragments.specs.Step as Spread
+use Rattle.line_fragments.specs.Step as Fragments
 use Rattle.line_code.specs.Parts.{bitsOf, blockOf, encodes, freshStrings, codeOf, lineOf}
 use Rattle.line_code.proofs.Results.{fresh-coded}
 use Rattle.line_demand.specs.Boards.{deliveredIn}
@@ -97,7 +97,7 @@ module _ (b : Table) (own : ℕ) (m : Marks) (s root : List ℕ) (inside : (i : 
   unfolding endsNow
   enough-now e = and-r (won b m s root) (enoughUsable b m s root) (and-r (outputNow b true m s root) _ e)
 
-  pub given-half : limits b ≡ true → pick (endsNow b true m s root) (some (Step.resultIn b m s root)) none ≡ Spread.resultAt B (half b own m s root inside) root
+  pub given-half : limits b ≡ true → pick (endsNow b true m s root) (some (Step.resultIn b m s root)) none ≡ Fragments.resultAt B (half b own m s root inside) root
   unfolding Step.resultIn pick
   given-half lim = go (endsNow b true m s root) refl ∙ ap (λ (c : Bool). pick c (some (resultOf b root (bitsOf (b .n) U) F)) none) (ends-is b own m s root inside)
     where

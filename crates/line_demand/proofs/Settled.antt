@@ -23,7 +23,7 @@ use Rattle.line.specs.Core.{Word, setWord}
 use Rattle.line.specs.Core as Core
 use Rattle.line.proofs.Tests.{off}
 use Rattle.line_fragments.specs.Step.{Line, BoardState, settle, opens}
-use Rattle.line_fragments.specs.Step as Spread
+use Rattle.line_fragments.specs.Step as Fragments
 use Rattle.line_code.specs.Parts.{codeOf, lineOf}
 use Rattle.line_demand.proofs.Shown.{spokeIn, coreOf, fragmentIn, shownOf, due-is, won-is, enough-is}
 
@@ -84,7 +84,7 @@ module _ (b : Table) (own : ℕ) (m : Marks) (s root : List ℕ) (inside : (i : 
   unfolding outputNow votedNow
   opens-is = rw (due-is b m s root, won-is b m s root)
 
-  pub ends-is : endsNow b true m s root ≡ Spread.ends B half root
+  pub ends-is : endsNow b true m s root ≡ Fragments.ends B half root
   unfolding endsNow
   ends-is = rw (opens-is, won-is b m s root, enough-is b m s root inside)
 
