@@ -7,7 +7,7 @@ use mathlib.Core.Option.{Option, some, none}
 use lib.Dec.{T, eqb, eqb→eq}
 use Rattle.octets.specs.Bytes.{pick}
 use Rattle.line.specs.Run.{Machine, In, hand, Run, fresh, after, state, Took, Put, Delivered, Genuine, Fair, Over}
-use Rattle.line.specs.Promise.{Mail, Promise}
+use Rattle.line.specs.Promise.{Promise}
 use Rattle.line.specs.Project.{extend, project}
 use Rattle.line.proofs.Runs.{last-put, no-put}
 

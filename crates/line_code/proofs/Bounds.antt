@@ -2,14 +2,14 @@
 use Prim.Native.Nat.{ℕ, zero, suc, _+_, _-_, _*_, _≤_, _<_}
 use mathlib.Core.Bool.{Bool, true, false}
 use mathlib.Core.Path.{_≡_, refl, sym, _∙_, ap}
-use mathlib.Core.List.{List, [], _∷_, _++_}
+use mathlib.Core.List.{List, [], _∷_}
 use native.Mathlib.Omega.{arith}
 use lib.Dec.{ltb, eqb, eqb→eq}
 use lib.ListN.{length, length-append}
 use Rattle.octets.specs.Bytes.{pick}
 use Rattle.octets.proofs.Below.{below}
 use Rattle.sha256.specs.Sha256.{sha256}
-use Rattle.tree.specs.Tree.{Tree, tip, fork, tree, treeOf, half, doubled, depth, root, climb}
+use Rattle.tree.specs.Tree.{Tree, tip, fork, tree, treeOf, half, doubled, depth}
 use Rattle.tree.specs.Check.{nodeOf}
 use Rattle.tree.specs.Strings.{hashed, climbed, checkStrings, treeStrings}
 use Rattle.tree.proofs.Checks.{depth-small}

@@ -1,10 +1,9 @@
 -- Which strings are not hashed: a statement that counts more of them as hashed says less, and fails here.
 use Prim.Native.Nat.{ℕ, _-_}
-use mathlib.Core.Bool.{Bool, true, false, not}
+use mathlib.Core.Bool.{true, false}
 use mathlib.Core.Path.{_≡_, refl}
-use mathlib.Core.List.{List, [], _++_}
+use mathlib.Core.List.{List, []}
 use mathlib.Core.Option.{some}
-use lib.Dec.{eqb}
 use Rattle.octets.specs.Bytes.{pick}
 use Rattle.table.specs.Table.{sMax}
 use Rattle.state.specs.State.{tableOf, marksOf}

@@ -19,7 +19,7 @@ use Rattle.tree.specs.Check.{nodeOf, pathCorrect}
 use Rattle.tree.specs.Strings.{Collision, checkStrings, treeStrings}
 use Rattle.octets.proofs.Sames.{same-self, same-equal}
 use Rattle.tree.proofs.Spans.{depth-all, depth-most}
-use Rattle.tree.proofs.Whole.{leaf-at, root-size, length-path, climb-same, complete}
+use Rattle.tree.proofs.Whole.{leaf-at, root-size, climb-same, complete}
 use Rattle.tree.proofs.Bound.{bound}
 use Rattle.tree.proofs.Flat.{flat-length, path-node}
 
@@ -80,10 +80,6 @@ path-length n fs i = flat-length sha256 sha256-length fs (treeOf n) i
 
 pub depth-small : (n i : ℕ) → n ≤ 64 → i < n → depth (treeOf n) i ≤ 6
 depth-small n i h lt = omega (arith, depth-all n i h lt, depth-most n 6 i)
-
-pub path-short : (n : ℕ) (fs : ℕ → List ℕ) (i : ℕ) → n ≤ 64 → i < n → length (pathOf n fs i) ≤ 6
-unfolding pathOf
-path-short n fs i h lt = omega (arith, length-path sha256 fs (treeOf n) i, depth-small n i h lt)
 
 -- ---- the two theorems
 
