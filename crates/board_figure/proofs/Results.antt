@@ -27,7 +27,7 @@ use Rattle.code_through.proofs.Agree.{length-fragment, apart-first, bytes-first
 use Rattle.code_through.proofs.Interpolation.{through-rebuilds, rebuilds-through}
 use Rattle.state.specs.State.{lenAt, fragmentAt}
 use Rattle.state.specs.declared.Marks.{Marks}
-use Rattle.deliver.specs.Delivered.{allOfLength, afresh, resultFrom, resultOf}
+use Rattle.deliver.specs.Delivered.{allOfLength, messageIn, readFrom, afresh, resultFrom, resultOf}
 use Rattle.deliver.proofs.Lengths.{lengths-at, at-lengths}
 use Rattle.deliver.proofs.Results.{result-same}
 use Rattle.board_step.specs.Step.{usableFor, keptOf, resultIn}
@@ -54,8 +54,8 @@ module _ (b : Table) (r I : List ℕ) (f : ℕ → List ℕ) (pos : 0 < kOf b) (
     even : (i : ℕ) → i < length I → length (f (getD I i 0)) ≡ len
     even i h = ap length (sym (g .same i h)) ∙ length-fragment (kOf b) len pos d (g .size) (getD I i 0)
 
-    by-block : resultFrom b r I f ≡ afresh b r d
-    unfolding resultFrom pick
+    by-block : resultFrom b r I f ≡ afresh b r (messageIn b d)
+    unfolding resultFrom readFrom pick
     by-block =
         let one : length (f (getD I 0 0)) ≡ len = even 0 (omega arith) in
         let all : allOfLength len I f ≡ true = at-lengths len I f even in
@@ -64,7 +64,7 @@ module _ (b : Table) (r I : List ℕ) (f : ℕ → List ℕ) (pos : 0 < kOf b) (
 
   -- so what is output is one thing
   output-is : (m : Option (List ℕ)) → Output b r I f m → resultFrom b r I f ≡ m
-  unfolding resultFrom afresh pick
+  unfolding resultFrom readFrom messageIn afresh pick
   output-is m (message len d g e q) = by-block len d g ∙ rw (e, q, same-self r)
   output-is m (other-root len d g e q) =
       let n : same (rootAfresh b d) r ≡ false = fails _ (λ z. q (same-equal _ r z)) in
@@ -77,23 +77,27 @@ module _ (b : Table) (r I : List ℕ) (f : ℕ → List ℕ) (pos : 0 < kOf b) (
 
   -- read from the block through them
   module _ (len : ℕ) (g : HasFragments (kOf b) len I f (blockThrough len I f)) where
-    read-out : (c e : Bool) → readable (kOf b) (b .longest) (blockThrough len I f) ≡ c
-        → same (rootAfresh b (blockThrough len I f)) r ≡ e
-        → Output b r I f (pick (c && e) (some (blockMessage (blockThrough len I f))) none)
+    by-root : readable (kOf b) (b .longest) (blockThrough len I f) ≡ true → (e : Bool) → same (rootAfresh b (blockThrough len I f)) r ≡ e
+        → Output b r I f (pick e (some (blockMessage (blockThrough len I f))) none)
     unfolding pick
-    read-out true true h k = message len (blockThrough len I f) g h (same-equal _ r k)
-    read-out true false h k = other-root len (blockThrough len I f) g h (λ q. clash _ (rw q (same-self r)) k)
-    read-out false e h k = unreadable len (blockThrough len I f) g h
+    by-root h true k = message len (blockThrough len I f) g h (same-equal _ r k)
+    by-root h false k = other-root len (blockThrough len I f) g h (λ q. clash _ (rw q (same-self r)) k)
+
+    read-out : (c : Bool) → readable (kOf b) (b .longest) (blockThrough len I f) ≡ c
+        → Output b r I f (afresh b r (pick c (some (blockMessage (blockThrough len I f))) none))
+    unfolding afresh pick
+    read-out true h = by-root h _ refl
+    read-out false h = unreadable len (blockThrough len I f) g h
 
   -- and there is one, where the fragments are bytes
   output-there : ((x d : ℕ) → getD (f x) d 0 < 256) → Output b r I f (resultFrom b r I f)
-  unfolding resultFrom afresh pick
+  unfolding resultFrom readFrom messageIn afresh pick
   output-there small = go (allOfLength (length (f (getD I 0 0))) I f) refl
     where
-      go : (c : Bool) → allOfLength (length (f (getD I 0 0))) I f ≡ c → Output b r I f (pick c (afresh b r (blockThrough (length (f (getD I 0 0))) I f)) none)
+      go : (c : Bool) → allOfLength (length (f (getD I 0 0))) I f ≡ c → Output b r I f (afresh b r (pick c (messageIn b (blockThrough (length (f (getD I 0 0))) I f)) none))
       go true e =
           let len = length (f (getD I 0 0)) in
-          read-out len (rw size at (through-rebuilds I f len (omega arith) apart bytes small (lengths-at len I f e))) _ _ refl refl
+          read-out len (rw size at (through-rebuilds I f len (omega arith) apart bytes small (lengths-at len I f e))) _ refl
       go false e = let (j, h, n) = lengths-find (length (f (getD I 0 0))) I f e in unequal j 0 h (omega arith) n
 
 -- ---- from the usable echoes for r

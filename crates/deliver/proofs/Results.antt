@@ -12,7 +12,6 @@ use lib.Dec.{eqb}
 use lib.ListN.{length, getD, take}
 use Rattle.octets.specs.Bytes.{pick, same}
 use Rattle.octets.specs.Sets.{has}
-use Rattle.octets.proofs.Picks.{and-l, and-r}
 use Rattle.table.specs.Table.{limits, kOf}
 use Rattle.table.specs.declared.Table.{Table}
 use Rattle.table.proofs.Within.{within, k-pos}
@@ -30,7 +29,7 @@ use Rattle.code_through.proofs.Agree.{apart-first, bytes-first, enough-marks, l
 use Rattle.code_through.proofs.Encoded.{bytes-block}
 use Rattle.code_through.proofs.Interpolation.{block-through}
 use Rattle.tree.specs.Tree.{rootOf}
-use Rattle.deliver.specs.Delivered.{allOfLength, afresh, resultFrom, resultOf}
+use Rattle.deliver.specs.Delivered.{allOfLength, messageIn, readFrom, afresh, resultFrom, resultOf}
 use Rattle.deliver.proofs.Lengths.{at-lengths}
 use Rattle.deliver.proofs.Delivering.{equal}
 
@@ -49,25 +48,29 @@ module _ (f g : ℕ → List ℕ) where
       ap₂ _++_ (same-block c xs h)
       (ap (through xs) (map-at (λ x. getD (f x) c 0) (λ x. getD (g x) c 0) xs (λ i b. ap (λ (l : List ℕ). getD l c 0) (h i b))))
 
+  read-same : (b : Table) (xs : List ℕ) → 0 < length xs → ((i : ℕ) → i < length xs → f (getD xs i 0) ≡ g (getD xs i 0)) → readFrom b xs f ≡ readFrom b xs g
+  unfolding readFrom
+  read-same b xs pos h =
+      let n = length (f (getD xs 0 0)) in
+      ap₂ (λ (c : Bool) (l : List ℕ). pick c (messageIn b l) none) (same-lengths n xs h) (same-block n xs h)
+      ∙ ap (λ (l : List ℕ). pick (allOfLength (length l) xs g) (messageIn b (blockThrough (length l) xs g)) none) (h 0 pos)
+
   from-same : (b : Table) (root xs : List ℕ) → 0 < length xs → ((i : ℕ) → i < length xs → f (getD xs i 0) ≡ g (getD xs i 0))
       → resultFrom b root xs f ≡ resultFrom b root xs g
   unfolding resultFrom
-  from-same b root xs pos h =
-      let n = length (f (getD xs 0 0)) in
-      ap₂ (λ (c : Bool) (l : List ℕ). pick c (afresh b root l) none) (same-lengths n xs h) (same-block n xs h)
-      ∙ ap (λ (l : List ℕ). pick (allOfLength (length l) xs g) (afresh b root (blockThrough (length l) xs g)) none) (h 0 pos)
+  from-same b root xs pos h = ap (afresh b root) (read-same b xs pos h)
 
 -- ---- a message's own block
 
 own-block : (b : Table) (message : List ℕ) → limits b ≡ true → length message ≤ b .longest
-    → afresh b (rootOf (b .n) (fragmentFor b message)) (block (kOf b) message) ≡ some message
-unfolding afresh pick
+    → afresh b (rootOf (b .n) (fragmentFor b message)) (messageIn b (block (kOf b) message)) ≡ some message
+unfolding afresh messageIn pick
 own-block b message limited fits =
     let w = within b limited in
     let k = kOf b in
     let short : length message ≤ 16384 = omega (arith, w .short) in
     let root = rootOf (b .n) (fragmentFor b message) in
-    ap₂ (λ (c : Bool) (m : List ℕ). pick (c && same (rootOf (b .n) (fragmentFor b m)) root) (some m) none)
+    ap₂ (λ (c : Bool) (m : List ℕ). afresh b root (pick c (some m) none))
     (block-readable k (k-pos b w) message short (b .longest) fits) (block-message k (k-pos b w) message short)
     ∙ ap (λ (c : Bool). pick c (some message) none) (same-self root)
 
@@ -117,7 +120,7 @@ module _ (b : Table) (set : ℕ) (limited : limits b ≡ true) (below : set / 2 
       let l = length-fragment (kOf b) pos message in
       result-same root fragment own (λ i g y. h i g y ∙ own-fragment b message i)
       ∙ equal b root points own len (sym (l (getD points 0 0))) true (sym (at-lengths len points own (λ i g. l (getD points i 0)))) refl
-      ∙ ap (afresh b root)
+      ∙ ap (λ (l : List ℕ). afresh b root (messageIn b l))
       (block-through points own len (block (kOf b) message) (omega (arith, size, pos)) (apart-first (b .n) set few (kOf b)) (bytes-first (b .n) set few (kOf b))
       (length-block (kOf b) pos message ∙ ap (λ (n : ℕ). rows (kOf b) (length message) * n) (sym size)) (bytes-block (kOf b) message bytes)
       (λ i g. ap (λ (n : ℕ). fragmentOf n (block (kOf b) message) (getD points i 0)) size))
@@ -128,43 +131,45 @@ module _ (b : Table) (set : ℕ) (limited : limits b ≡ true) (below : set / 2 
 some-same : (m n : List ℕ) → _≡_ {A = Option (List ℕ)} (some m) (some n) → m ≡ n
 some-same m n e = cc
 
+none-some : {D : Type 0} (m : List ℕ) → _≡_ {A = Option (List ℕ)} none (some m) → D
+none-some m e = absurd (let z : _≡_ {A = ℕ} 0 1 = cc in omega arith)
+
 some-picked : (c : Bool) (o : Option (List ℕ)) (m : List ℕ) → pick c o none ≡ some m → (c ≡ true) × (o ≡ some m)
 unfolding pick
 some-picked true o m e = (refl, e)
-some-picked false o m e = absurd (let z : _≡_ {A = ℕ} 0 1 = cc in omega arith)
+some-picked false o m e = none-some m e
 
--- a message that is delivered was read from a block, and has the root
-pub record Read (b : Table) (root block m : List ℕ) : Type 0 where
-  pub message : blockMessage block ≡ m
-  pub reads : readable (kOf b) (b .longest) block ≡ true
-  pub root-same : rootOf (b .n) (fragmentFor b m) ≡ root
+-- a message that is read stands in the block that the fragments give
+pub record Read (b : Table) (xs : List ℕ) (fragment : ℕ → List ℕ) (m : List ℕ) : Type 0 where
+  pub message : blockMessage (blockThrough (length (fragment (getD xs 0 0))) xs fragment) ≡ m
+  pub reads : readable (kOf b) (b .longest) (blockThrough (length (fragment (getD xs 0 0))) xs fragment) ≡ true
 
-afresh-read : (b : Table) (root block m : List ℕ) → afresh b root block ≡ some m → Read b root block m
+pub read-why : (b : Table) (xs : List ℕ) (fragment : ℕ → List ℕ) (m : List ℕ) → readFrom b xs fragment ≡ some m → Read b xs fragment m
+unfolding readFrom messageIn
+read-why b xs fragment m e =
+    let d = blockThrough (length (fragment (getD xs 0 0))) xs fragment in
+    let p = some-picked (readable (kOf b) (b .longest) d) (some (blockMessage d)) m (some-picked (allOfLength (length (fragment (getD xs 0 0))) xs fragment) _ m e .1) in
+    record { message = some-same (blockMessage d) m (p .1); reads = p .0 }
+
+-- a message that is delivered was read, and has the root
+afresh-why : (b : Table) (root : List ℕ) (o : Option (List ℕ)) (m : List ℕ) → afresh b root o ≡ some m → (o ≡ some m) × (rootOf (b .n) (fragmentFor b m) ≡ root)
 unfolding afresh
-afresh-read b root block m e =
-    let p = some-picked (readable (kOf b) (b .longest) block && same (rootOf (b .n) (fragmentFor b (blockMessage block))) root) (some (blockMessage block)) m e in
-    let q = some-same (blockMessage block) m (p .1) in
-    record {
-      message = q;
-      reads = and-l (readable (kOf b) (b .longest) block) _ (p .0);
-      root-same = ap (λ (m : List ℕ). rootOf (b .n) (fragmentFor b m)) (sym q)
-          ∙ same-equal (rootOf (b .n) (fragmentFor b (blockMessage block))) root (and-r (readable (kOf b) (b .longest) block) _ (p .0));
-    }
+afresh-why b root none m e = none-some m e
+afresh-why b root (some x) m e =
+    let p = some-picked (same (rootOf (b .n) (fragmentFor b x)) root) (some x) m e in
+    (p .1, ap (λ (m : List ℕ). rootOf (b .n) (fragmentFor b m)) (sym (some-same x m (p .1))) ∙ same-equal (rootOf (b .n) (fragmentFor b x)) root (p .0))
 
 module _ (b : Table) (root : List ℕ) (set : ℕ) (fragment : ℕ → List ℕ) (m : List ℕ) (e : resultOf b root set fragment ≡ some m) where
   abbrev points-of : List ℕ
   points-of = take (kOf b) (marks 1 (b .n) set)
 
-  read : Read b root (blockThrough (length (fragment (getD points-of 0 0))) points-of fragment) m
+  pub result-read : (readFrom b points-of fragment ≡ some m) × (rootOf (b .n) (fragmentFor b m) ≡ root)
   unfolding resultOf resultFrom
-  read =
-      let n = length (fragment (getD points-of 0 0)) in
-      afresh-read b root (blockThrough n points-of fragment) m
-      (some-picked (allOfLength n points-of fragment) (afresh b root (blockThrough n points-of fragment)) m e .1)
+  result-read = afresh-why b root (readFrom b points-of fragment) m e
 
   -- a message that is delivered has at most L bytes, and the root
   pub result-root : limits b ≡ true → (length m ≤ b .longest) × (rootOf (b .n) (fragmentFor b m) ≡ root)
   result-root limited =
-      let r = read in
+      let r = read-why b points-of fragment m (result-read .0) in
       let f = readable-facts (kOf b) (b .longest) (blockThrough (length (fragment (getD points-of 0 0))) points-of fragment) (k-pos b (within b limited)) (r .reads) in
-      (omega (arith, f .fits, f .size, ap length (r .message)), r .root-same)
+      (omega (arith, f .fits, f .size, ap length (r .message)), result-read .1)

@@ -19,16 +19,24 @@ unfoldable pub allOfLength : ℕ → List ℕ → (ℕ → List ℕ) → Bool
 allOfLength len [] fragment = true
 allOfLength len (x ∷ xs) fragment = eqb (length (fragment x)) len && allOfLength len xs fragment
 
--- "read the block; encode the message afresh; if the new root is the same, deliver the message, else deliver void": none is void
-unfoldable pub afresh : Table → List ℕ → List ℕ → Option (List ℕ)
-afresh b root block =
-    pick (readable (kOf b) (b .longest) block && same (rootOf (b .n) (fragmentFor b (blockMessage block))) root) (some (blockMessage block)) none
+-- "read the block": the message that stands in it, if it can be read
+unfoldable pub messageIn : Table → List ℕ → Option (List ℕ)
+messageIn b block = pick (readable (kOf b) (b .longest) block) (some (blockMessage block)) none
 
--- "rebuild from the k lowest-numbered ones": the boards xs
-unfoldable pub resultFrom : Table → List ℕ → List ℕ → (ℕ → List ℕ) → Option (List ℕ)
-resultFrom b root xs fragment =
+-- "rebuild from the k lowest-numbered ones; read the block": the boards xs; "Unequal lengths or an unreadable block" give none
+unfoldable pub readFrom : Table → List ℕ → (ℕ → List ℕ) → Option (List ℕ)
+readFrom b xs fragment =
     let len = length (fragment (getD xs 0 0)) in
-    pick (allOfLength len xs fragment) (afresh b root (blockThrough len xs fragment)) none
+    pick (allOfLength len xs fragment) (messageIn b (blockThrough len xs fragment)) none
+
+-- "encode the message afresh; if the new root is the same, deliver the message, else deliver void": none is void
+unfoldable pub afresh : Table → List ℕ → Option (List ℕ) → Option (List ℕ)
+afresh b root none = none
+afresh b root (some m) = pick (same (rootOf (b .n) (fragmentFor b m)) root) (some m) none
+
+-- what is delivered from the boards xs
+unfoldable pub resultFrom : Table → List ℕ → List ℕ → (ℕ → List ℕ) → Option (List ℕ)
+resultFrom b root xs fragment = afresh b root (readFrom b xs fragment)
 
 -- the same from a set of boards: board i is bit i - 1
 unfoldable pub resultOf : Table → List ℕ → ℕ → (ℕ → List ℕ) → Option (List ℕ)

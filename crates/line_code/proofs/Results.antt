@@ -1,36 +1,33 @@
 -- What a delivery is worth where boards are a test and not a set of bits: only the boards of which the test holds are looked at.
 -- Assumes nothing.
 use Prim.Native.Nat.{ℕ, zero, suc, _-_, _/_, _^_, min, _<_}
-use mathlib.Core.Path.{_≡_, refl, sym, ap, _∙_, subst}
-use mathlib.Core.Bool.{Bool, true, false, _&&_}
+use mathlib.Core.Path.{_≡_, sym, ap, _∙_, subst}
+use mathlib.Core.Bool.{Bool, true}
 use mathlib.Core.List.{List, map, List·Memᴰ}
-use mathlib.Core.Option.{none, some}
+use mathlib.Core.Option.{some}
 use native.Mathlib.Nat as N
 use native.Mathlib.Omega.{arith}
 use lib.Count.{ones}
 use lib.ListN.{length, getD, take, length-take, length-map}
 use lib.Seq.{getD-take}
-use Rattle.octets.specs.Bytes.{pick, same}
 use Rattle.octets.specs.Sets.{has}
 use Rattle.octets.proofs.SetLaws.{setOf-lt}
 use Rattle.table.specs.Table.{kOf}
 use Rattle.table.specs.declared.Table.{Table}
 use Rattle.octets.proofs.Members.{has-setOf}
 use Rattle.code.specs.Code.{All, Byte}
-use Rattle.code.specs.Block.{readable, blockMessage}
 use Rattle.code.proofs.Lists.{all-of, all-append, getD-map}
 use Rattle.code.proofs.Reading.{message-bytes}
 use Rattle.code_encode.specs.Message.{fragmentFor}
-use Rattle.tree.specs.Tree.{rootOf}
 use Rattle.tree.specs.Strings.{treeStrings}
 use Rattle.code_through.specs.Through.{marks, through, blockThrough}
 use Rattle.code_through.proofs.Marks.{between, marks-have}
 use Rattle.code_through.proofs.Interpolation.{bytes-through}
-use Rattle.deliver.specs.Delivered.{allOfLength, afresh, resultFrom, resultOf}
+use Rattle.deliver.specs.Delivered.{resultOf}
+use Rattle.deliver.proofs.Results.{read-why, result-read}
 use Rattle.line.specs.Boards.{count}
 use Rattle.line.proofs.Sets.{ones-setOf}
-use Rattle.line.proofs.Tests.{none-some}
-use Rattle.line_code.specs.Parts.{bitsOf, blockOf, encodes, freshStrings}
+use Rattle.line_code.specs.Parts.{bitsOf, encodingStrings, freshStrings}
 
 -- ---- the bits of a test
 
@@ -76,41 +73,17 @@ module _ (xs : List ℕ) (F : ℕ → List ℕ) (h : (i : ℕ) → i < length xs
 
 -- ---- a message that is delivered was encoded afresh
 
--- from the boards xs
-pub record Encoded (b : Table) (xs : List ℕ) (F : ℕ → List ℕ) (m : List ℕ) : Type 0 where
-  pub anew : encodes b xs F ≡ true
-  pub message : blockMessage (blockOf xs F) ≡ m
-
-picked : (a c d : Bool) (x m : List ℕ) → pick a (pick (c && d) (some x) none) none ≡ some m → (a && c ≡ true) × (x ≡ m)
-unfolding pick
-picked true true true x m e = (refl, (cc))
-picked true true false x m e = none-some m e
-picked true false d x m e = none-some m e
-picked false c d x m e = none-some m e
-
-pub encoded : (b : Table) (v : List ℕ) (set : ℕ) (F : ℕ → List ℕ) (m : List ℕ) → resultOf b v set F ≡ some m
-    → Encoded b (take (kOf b) (marks 1 (b .n) set)) F m
-unfolding resultOf resultFrom afresh encodes blockOf
-encoded b v set F m e =
-    let xs = take (kOf b) (marks 1 (b .n) set) in
-    let len = length (F (getD xs 0 0)) in
-    let w = blockThrough len xs F in
-    let p = picked (allOfLength len xs F) (readable (kOf b) (b .longest) w) (same (rootOf (b .n) (fragmentFor b (blockMessage w))) v) (blockMessage w) m e in
-    record { anew = p .0; message = p .1 }
-
 -- so the strings of its encoding were hashed
 pub fresh-coded : (b : Table) (v : List ℕ) (set : ℕ) (F : ℕ → List ℕ) (m y : List ℕ) → resultOf b v set F ≡ some m
     → List·Memᴰ y (treeStrings (b .n) (fragmentFor b m)) → List·Memᴰ y (freshStrings b set F)
-unfolding freshStrings pick
-fresh-coded b v set F m y e h =
-    let c = encoded b v set F m e in
-    rw (c .anew, c .message) h
+unfolding freshStrings encodingStrings
+fresh-coded b v set F m y e h = subst (λ o. List·Memᴰ y (encodingStrings b o)) (sym (result-read b v set F m e .0)) h
 
 -- and it is bytes, where the fragments that are looked at are
 pub message-proper : (b : Table) (v : List ℕ) (set : ℕ) (F : ℕ → List ℕ) (m : List ℕ) → resultOf b v set F ≡ some m
     → ((i : ℕ) → i < length (take (kOf b) (marks 1 (b .n) set)) → (d : ℕ) → getD (F (getD (take (kOf b) (marks 1 (b .n) set)) i 0)) d 0 < 256)
     → All Byte m
-unfolding blockOf
 message-proper b v set F m e h =
     let xs = take (kOf b) (marks 1 (b .n) set) in
-    subst (All Byte) (encoded b v set F m e .message) (message-bytes (blockOf xs F) (block-bytes xs F h (length (F (getD xs 0 0)))))
+    let len = length (F (getD xs 0 0)) in
+    subst (All Byte) (read-why b xs F m (result-read b v set F m e .0) .message) (message-bytes (blockThrough len xs F) (block-bytes xs F h len))

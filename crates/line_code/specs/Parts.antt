@@ -6,7 +6,7 @@ use mathlib.Core.Bool.{Bool, true, _&&_}
 use mathlib.Core.List.{List, [], _∷_, List·Memᴰ}
 use mathlib.Core.Option.{Option, none, some}
 use lib.Dec.{leb, ltb, eqb}
-use lib.ListN.{length, getD, take}
+use lib.ListN.{length, take}
 use Rattle.octets.specs.Bytes.{pick, part, same}
 use Rattle.octets.specs.Sets.{setOf}
 use Rattle.table.specs.Table.{kOf, sMax}
@@ -15,10 +15,9 @@ use Rattle.sha256.specs.Sha256.{sha256}
 use Rattle.tree.specs.Tree.{rootOf, pathOf, flat}
 use Rattle.tree.specs.Check.{pathCorrect}
 use Rattle.tree.specs.Strings.{checkStrings, treeStrings}
-use Rattle.code.specs.Block.{readable, blockMessage}
 use Rattle.code_encode.specs.Message.{fragmentFor}
-use Rattle.code_through.specs.Through.{marks, blockThrough}
-use Rattle.deliver.specs.Delivered.{allOfLength, resultOf}
+use Rattle.code_through.specs.Through.{marks}
+use Rattle.deliver.specs.Delivered.{readFrom, resultOf}
 use Rattle.record.specs.Form.{parse, recordOf}
 use Rattle.record.specs.declared.Read.{Read}
 use Rattle.record.specs.declared.Read.the-variants.{Form, Fault}
@@ -34,19 +33,14 @@ bytes (x ∷ xs) = ltb x 256 && bytes xs
 unfoldable pub bitsOf : ℕ → (ℕ → Bool) → ℕ
 bitsOf n U = setOf (λ i. U (suc i)) 0 n
 
--- the block rebuilt from the fragments of the boards xs
-unfoldable pub blockOf : List ℕ → (ℕ → List ℕ) → List ℕ
-blockOf xs fragment = blockThrough (length (fragment (getD xs 0 0))) xs fragment
+-- the strings hashed in the encoding of a message, if there is one
+unfoldable pub encodingStrings : Table → Option (List ℕ) → List (List ℕ)
+encodingStrings b none = []
+encodingStrings b (some m) = treeStrings (b .n) (fragmentFor b m)
 
--- whether a delivery comes to a fresh encoding: lengths are equal, and the block can be read
-unfoldable pub encodes : Table → List ℕ → (ℕ → List ℕ) → Bool
-encodes b xs fragment = allOfLength (length (fragment (getD xs 0 0))) xs fragment && readable (kOf b) (b .longest) (blockOf xs fragment)
-
--- the strings hashed in "fresh encodings": those of the message read, whether its root is then the one voted for or not
+-- the strings hashed in "fresh encodings": those of the message read from the k lowest, whether its root is then the one voted for or not
 unfoldable pub freshStrings : Table → ℕ → (ℕ → List ℕ) → List (List ℕ)
-freshStrings b set fragment =
-    let xs = take (kOf b) (marks 1 (b .n) set) in
-    pick (encodes b xs fragment) (treeStrings (b .n) (fragmentFor b (blockMessage (blockOf xs fragment)))) []
+freshStrings b set fragment = encodingStrings b (readFrom b (take (kOf b) (marks 1 (b .n) set)) fragment)
 
 -- a message of at most L bytes
 pub record Sendable (b : Table) (m : List ℕ) : Type 0 where

@@ -3,22 +3,21 @@ use Prim.Native.Nat.{ℕ, suc, _≤_}
 use native.Mathlib.Omega.{arith}
 use mathlib.Core.Bool.{Bool, true, false}
 use mathlib.Core.Path.{_≡_, refl, ap, _∙_}
-use mathlib.Core.List.{List, [], List·Memᴰ, List·Memᴰ·not-nil}
+use mathlib.Core.List.{List, List·Memᴰ, List·Memᴰ·not-nil}
 use mathlib.Core.Option.{Option, some, none}
-use lib.ListN.{length, getD, take}
+use lib.ListN.{length, take}
 use Rattle.octets.specs.Bytes.{pick, part}
 use Rattle.octets.specs.Sets.{has}
 use Rattle.octets.proofs.Frame.{part-in}
-use Rattle.octets.proofs.Picks.{and-l, and-r}
+use Rattle.octets.proofs.Picks.{and-r}
 use Rattle.octets.proofs.Sames.{same-self}
 use Rattle.table.specs.Table.{limits, kOf, sMax}
 use Rattle.table.specs.declared.Table.{Table}
 use Rattle.tree.specs.Tree as Tree
 use Rattle.tree.specs.Strings.{treeStrings}
-use Rattle.code.specs.Block.{blockMessage}
 use Rattle.code_encode.specs.Message.{fragmentFor}
-use Rattle.code_through.specs.Through.{marks, blockThrough}
-use Rattle.deliver.specs.Delivered.{allOfLength, afresh, resultFrom, resultOf, leftBy}
+use Rattle.code_through.specs.Through.{marks}
+use Rattle.deliver.specs.Delivered.{readFrom, afresh, resultFrom, resultOf, leftBy}
 use Rattle.deliver.proofs.Results.{result-same, result-root}
 use Rattle.state.specs.Kept.{member, masked}
 use Rattle.state.specs.State.{echoAt}
@@ -29,7 +28,7 @@ use Rattle.board_step.specs.Step as Step
 use Rattle.board_step.proofs.Due.{usable-few, usable-in, usable-enough}
 use Rattle.line_fragments.specs.Step.{Line}
 use Rattle.line_fragments.specs.Step as Fragments
-use Rattle.line_code.specs.Parts.{bitsOf, blockOf, encodes, freshStrings, codeOf, lineOf}
+use Rattle.line_code.specs.Parts.{bitsOf, encodingStrings, freshStrings, codeOf, lineOf}
 use Rattle.line_code.proofs.Results.{fresh-coded}
 use Rattle.line_demand.specs.Boards.{deliveredIn}
 use Rattle.line_demand.proofs.Shown.{fragmentIn, usableIn, bits}
@@ -48,22 +47,16 @@ given-is true (some y) d h = ap (λ (z : List ℕ). some (some z)) (part-in 0 y 
 
 fresh-why : (b : Table) (set : ℕ) (F : ℕ → List ℕ) (y : List ℕ) → List·Memᴰ y (freshStrings b set F)
     → (m : List ℕ) × (resultOf b (Tree.rootOf (b .n) (fragmentFor b m)) set F ≡ some m) × List·Memᴰ y (treeStrings (b .n) (fragmentFor b m))
-unfolding freshStrings resultOf resultFrom afresh encodes blockOf pick
-fresh-why b set F y h = go (encodes b xs F) refl h
+unfolding freshStrings encodingStrings resultOf resultFrom afresh pick
+fresh-why b set F y h = go (readFrom b xs F) refl h
   where
     xs : List ℕ
     xs = take (kOf b) (marks 1 (b .n) set)
 
-    len : ℕ
-    len = length (F (getD xs 0 0))
-
-    m : List ℕ
-    m = blockMessage (blockThrough len xs F)
-
-    go : (c : Bool) → encodes b xs F ≡ c → List·Memᴰ y (pick c (treeStrings (b .n) (fragmentFor b m)) [])
+    go : (o : Option (List ℕ)) → readFrom b xs F ≡ o → List·Memᴰ y (encodingStrings b o)
         → (m : List ℕ) × (resultOf b (Tree.rootOf (b .n) (fragmentFor b m)) set F ≡ some m) × List·Memᴰ y (treeStrings (b .n) (fragmentFor b m))
-    go true e q = (m, rw (and-l (allOfLength len xs F) _ e, and-r (allOfLength len xs F) _ e, same-self (Tree.rootOf (b .n) (fragmentFor b m))), q)
-    go false e q = absurd (List·Memᴰ·not-nil q)
+    go none e q = absurd (List·Memᴰ·not-nil q)
+    go (some m) e q = (m, rw (e, same-self (Tree.rootOf (b .n) (fragmentFor b m))), q)
 
 -- ---- marks m and bytes s, once a record that names root is kept
 
