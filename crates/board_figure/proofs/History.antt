@@ -23,7 +23,7 @@ use Rattle.board_figure.specs.Shown.{figureOf, messageOf}
 use Rattle.board_figure.specs.History.{Handed, OfBytes, stepOn, readAs, Means, NoMessage, passedOver, FigureRun, ends, takes, passes, misses}
 use Rattle.board_figure.proofs.Alike.{Alike, alike-self, alike-back, alike-through, still-alike, fires-alike, receive-alike}
 use Rattle.board_figure.proofs.Begins.{start-begins}
-use Rattle.board_figure.proofs.Octets.{step-bytes, start-bytes}
+use Rattle.board_step.proofs.Octets.{step-bytes, start-bytes}
 use Rattle.board_figure.proofs.Overdue.{nothing-overdue}
 use Rattle.board_figure.proofs.Refusals.{refused-why}
 use Rattle.board_figure.proofs.StepIsFigure.{step-is-figure}

@@ -1,5 +1,4 @@
 -- A board's step is figure 5's. To be read: Begins, Overdue (its last theorems), StepIsFigure (its last), History (its last), NeverBoth.
-pub mod Octets
 pub mod Counts
 pub mod Firing
 pub mod Seen

@@ -32,7 +32,7 @@ use Rattle.board_step.proofs.Taking.{formed}
 use Rattle.board_figure.specs.Figure.{Piece, echo, sends, Figure, correct, receive, At, acquire, Still, Fires}
 use Rattle.board_figure.specs.Shown.{figureIn, figureOf, pieceOf, messageOf, AsFigure}
 use Rattle.board_figure.proofs.Firing.{Only, fires-one, only-echo, only-vote, send-fires, send-one}
-use Rattle.board_figure.proofs.Octets.{kept-bytes}
+use Rattle.board_step.proofs.Octets.{kept-bytes}
 use Rattle.board_figure.proofs.Overdue.{nothing-overdue}
 use Rattle.board_figure.proofs.Received.{echo-received, vote-received, send-acquired, figure-marks}
 use Rattle.board_figure.proofs.Reaching.{events}

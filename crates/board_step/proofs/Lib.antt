@@ -3,3 +3,4 @@ pub mod Records
 pub mod Due
 pub mod Taking
 pub mod Outcomes
+pub mod Octets

@@ -13,6 +13,7 @@ pub mod Plain
 pub mod Simples
 pub mod Notices
 pub mod Projected
+pub mod Lifted
 pub mod Rounds
 pub mod FourBoards
 pub mod Examples

@@ -6,3 +6,4 @@ pub mod Core
 pub mod Plain
 pub mod Notice
 pub mod Project
+pub mod Bytes

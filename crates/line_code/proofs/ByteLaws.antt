@@ -8,7 +8,7 @@ use borrow.Author.Tests.{lt-ltb, ltb-true}
 use lib.Dec.{ltb}
 use Rattle.octets.proofs.Picks.{and-on, and-l, and-r}
 use Rattle.code.specs.Code.{All, Byte}
-use Rattle.line_code.specs.Parts.{bytes}
+use Rattle.line.specs.Bytes.{bytes}
 
 pub all-bytes : (s : List ℕ) → All Byte s → bytes s ≡ true
 unfolding bytes

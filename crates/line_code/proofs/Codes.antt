@@ -26,7 +26,8 @@ use Rattle.deliver.proofs.Results as D
 use Rattle.line.specs.Boards.{count, Board}
 use Rattle.line_fragments.specs.Hashed.{Clash}
 use Rattle.line_fragments.specs.Laws.{CodeLaws}
-use Rattle.line_code.specs.Parts.{bytes, bitsOf, Sendable, codeOf}
+use Rattle.line.specs.Bytes.{bytes}
+use Rattle.line_code.specs.Parts.{bitsOf, Sendable, codeOf}
 use Rattle.octets.proofs.Picks.{holds, is-true}
 use Rattle.line_code.proofs.ByteLaws.{all-bytes, bytes-all}
 use Rattle.line_code.proofs.Results.{bits-few, bits-has, bits-ones, first-of, fresh-coded, message-proper}

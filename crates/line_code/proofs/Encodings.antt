@@ -42,10 +42,10 @@ fragment-bytes b message i h =
 
 -- ---- the tree
 
-hash-bytes : (s : List ℕ) → All Byte (sha256 s)
+pub hash-bytes : (s : List ℕ) → All Byte (sha256 s)
 hash-bytes s = all-of Byte (sha256 s) (λ i h. sha256-bytes s i)
 
-node-bytes : (fs : ℕ → List ℕ) (t : Tree) → All Byte (root sha256 fs t)
+pub node-bytes : (fs : ℕ → List ℕ) (t : Tree) → All Byte (root sha256 fs t)
 unfolding root leafHash nodeHash
 node-bytes fs (tip i) = hash-bytes _
 node-bytes fs (fork k l r) = hash-bytes _

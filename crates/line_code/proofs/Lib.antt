@@ -5,5 +5,6 @@ pub mod Records
 pub mod Lines
 pub mod Mails
 pub mod Results
+pub mod Strings
 pub mod Codes
 pub mod Bounds

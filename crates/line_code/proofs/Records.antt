@@ -19,7 +19,8 @@ use Rattle.record.proofs.PartLaws.{known, kind-few, parts-read, parts-pass}
 use Rattle.record.proofs.Sections.{record-root, record-path, record-fragment}
 use Rattle.line.proofs.Tests.{off, none-some}
 use Rattle.line_fragments.specs.Step.{send, echo, vote}
-use Rattle.line_code.specs.Parts.{bytes, FragmentRecord, ofKind, recordRead, readRecord}
+use Rattle.line.specs.Bytes.{bytes}
+use Rattle.line_code.specs.Parts.{FragmentRecord, ofKind, recordRead, readRecord}
 use Rattle.line_code.proofs.ByteLaws.{all-bytes, bytes-all}
 
 -- root, path and fragment that a record of kind k can have

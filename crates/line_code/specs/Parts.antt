@@ -2,10 +2,10 @@
 -- contract cites.
 use Prim.Native.Nat.{ℕ, suc, _+_, _-_, _*_, _/_, _≤_}
 use mathlib.Core.Path.{_≡_}
-use mathlib.Core.Bool.{Bool, true, _&&_}
-use mathlib.Core.List.{List, [], _∷_, List·Memᴰ}
+use mathlib.Core.Bool.{Bool, true}
+use mathlib.Core.List.{List, [], List·Memᴰ}
 use mathlib.Core.Option.{Option, none, some}
-use lib.Dec.{leb, ltb, eqb}
+use lib.Dec.{leb, eqb}
 use lib.ListN.{length, take}
 use Rattle.octets.specs.Bytes.{pick, part, same}
 use Rattle.octets.specs.Sets.{setOf}
@@ -21,13 +21,9 @@ use Rattle.deliver.specs.Delivered.{readFrom, resultOf}
 use Rattle.record.specs.Form.{parse, recordOf}
 use Rattle.record.specs.declared.Read.{Read}
 use Rattle.record.specs.declared.Read.the-variants.{Form, Fault}
+use Rattle.line.specs.Bytes.{bytes}
 use Rattle.line_fragments.specs.Code.{Code}
 use Rattle.line_fragments.specs.Step.{Record, send, echo, vote, Line}
-
--- whether a list of numbers is a string of bytes: nothing else can be handed over
-unfoldable pub bytes : List ℕ → Bool
-bytes [] = true
-bytes (x ∷ xs) = ltb x 256 && bytes xs
 
 -- a set of boards as its bits: board i is bit i - 1
 unfoldable pub bitsOf : ℕ → (ℕ → Bool) → ℕ

@@ -29,7 +29,8 @@ use Rattle.board.specs.Stepped.{recordRoot, recordPath, recordFragment}
 use Rattle.line.specs.Run.{hand}
 use Rattle.line.proofs.Tests.{off}
 use Rattle.line_fragments.specs.Step.{send, echo, vote, Line, BoardState, Act, refuse, take, actOn, act}
-use Rattle.line_code.specs.Parts.{FragmentRecord, bytes, codeOf, lineOf, ofKind, recordRead, readRecord}
+use Rattle.line.specs.Bytes.{bytes}
+use Rattle.line_code.specs.Parts.{FragmentRecord, codeOf, lineOf, ofKind, recordRead, readRecord}
 use Rattle.line_demand.proofs.Shown.{shownOf}
 
 not-over : (x y : ℕ) → ltb y x ≡ not (leb x y)

@@ -14,7 +14,8 @@ use Rattle.line.specs.Run.{hand}
 use Rattle.line_fragments.specs.Step.{Line, BoardState, Act, act, afterAct}
 use Rattle.line_fragments.specs.Step as Fragments
 use Rattle.line_fragments.specs.Hashed.{hashedBy}
-use Rattle.line_code.specs.Parts.{bytes, codeOf, lineOf}
+use Rattle.line.specs.Bytes.{bytes}
+use Rattle.line_code.specs.Parts.{codeOf, lineOf}
 use Rattle.line_demand.specs.Boards.{putIn, givenIn}
 use Rattle.line_demand.specs.Strings.{planStrings}
 use Rattle.line_demand.proofs.Shown.{shownOf}

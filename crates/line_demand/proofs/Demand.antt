@@ -16,8 +16,9 @@ use Rattle.board_send.proofs.Sends.{sent-front}
 use Rattle.line.specs.Boards.{Board, Keepers}
 use Rattle.line.specs.Run.{Machine, hand, Run, Took, Fair}
 use Rattle.line.specs.Promise.{Mail, Promise}
-use Rattle.line.specs.Project.{project}
-use Rattle.line.proofs.Projected.{Carries, fair-on, took-on, promise-on}
+use Rattle.line.specs.Project.{project, TookSeen}
+use Rattle.line.proofs.Projected.{Carries, fair-on, took-seen, promise-of, promise-on}
+use Rattle.line.proofs.Lifted.{lifted}
 use Rattle.line_fragments.specs.Step.{mail}
 use Rattle.line_fragments.specs.Hashed.{hashes, CollisionIn}
 use Rattle.line_fragments.proofs.Hashes.{collides}
@@ -30,7 +31,7 @@ use Rattle.line_demand.specs.Boards.{Desk, Roomy, Sends, boards}
 use Rattle.line_demand.specs.Strings.{OneValue}
 use Rattle.line_demand.specs.Demand.{DemandThree}
 use Rattle.line_demand.proofs.Started.{broadcast}
-use Rattle.line_demand.proofs.Carry.{sees, board-is, carries}
+use Rattle.line_demand.proofs.Carry.{sees, board-is, lifts, carries}
 use Rattle.line_demand.proofs.Reached.{passed}
 use Rattle.line_demand.proofs.Strings.{step-hashes}
 
@@ -71,23 +72,24 @@ module _ (b : Table) (limited : limits b ≡ true) (m : List ℕ) (fits : Sendab
     -- ---- a run of the byte boards is a run of the broadcast
 
     fair-line : Fair BB keeps (Sends b m) r → Fair MM keeps Mails (project BB MM sees r)
-    unfolding carries
+    unfolding carries lifted lifts
     fair-line f = fair-on carry (λ i j β ρ e s. to-mail i j ρ (subst (λ x. Sends b m i j x) (let q : β ≡ ρ = cc in q) s)) f
 
     took-line : (i j : ℕ) (β ρ : List ℕ) → T (keeps j) → _≡_ {A = Option (List ℕ)} (some β) (some ρ) → Took BB j (hand i β) r
-        → Took MM j (hand i ρ) (project BB MM sees r)
+        → TookSeen BB MM sees j (hand i β) (hand i ρ) r
     took-line i j β ρ kj e h =
         let q : β ≡ ρ = cc in
-        subst (λ x. Took MM j (hand i x) (project BB MM sees r)) q (took-on carry (passed b limited lent keeps roomy j kj (K .known j kj) i β) h)
+        subst (λ x. TookSeen BB MM sees j (hand i β) (hand i x) r) q (took-seen (passed b limited lent keeps roomy j kj (K .known j kj) i β) h)
 
     clash : CollisionIn (codeOf b) MM (hashes (lineOf b)) keeps (b .sender) m (project BB MM sees r) → OneValue b lent keeps m r
-    unfolding carries
+    unfolding carries lifted lifts
     clash = collides carry (codeOf b) (step-hashes b) (b .sender) m r
 
     line : Fair BB keeps (Sends b m) r → Promise BB keeps (b .sender) (Sends b m) (some m) (OneValue b lent keeps m r) r
-    unfolding carries
-    line f = promise-on carry (λ i j ρ s. (ρ, of-mail i j ρ s, refl)) refl (λ d. (d, refl)) (λ d e q. (cc)) took-line clash
-        (kept (line-laws b limited) (λ i. []) (λ i. []) (code-laws b limited) (mail-laws b limited) K m fits (fair-line f))
+    unfolding carries lifted lifts
+    line f = promise-on refl (λ d. (d, refl)) (λ d e q. (cc)) took-line
+        (promise-of carry (λ i j ρ s. (ρ, of-mail i j ρ s, refl)) clash
+        (kept (line-laws b limited) (λ i. []) (λ i. []) (code-laws b limited) (mail-laws b limited) K m fits (fair-line f)))
 
 -- demand 3 holds
 pub demand-three : DemandThree

@@ -10,6 +10,7 @@ use Rattle.line.specs.Boards.{Board}
 use Rattle.line.specs.Run.{Machine, hand, Run, Took, Put, Delivered, Fair, Over}
 use Rattle.line.specs.Project.{project}
 use Rattle.line.proofs.Projected.{Carries, put-on, put-back, delivered-back}
+use Rattle.line.proofs.Lifted.{lifted}
 use Rattle.line.proofs.FourBoards.{Passes, sent, echoed, voted, voted-fair, took-mail, took-echo, took-vote, sent-project, echoed-project, voted-project}
 use Rattle.line_fragments.specs.Laws.{LineLaws}
 use Rattle.line_fragments.proofs.Spreads.{Correct, AllFour, mailed, echoing, voting}
@@ -18,7 +19,7 @@ use Rattle.line_code.specs.Parts.{codeOf, lineOf}
 use Rattle.line_code.proofs.Lines.{line-laws}
 use Rattle.line_demand.specs.Boards.{Desk, Roomy, boards}
 use Rattle.line_demand.proofs.Started.{broadcast}
-use Rattle.line_demand.proofs.Carry.{sees, carries}
+use Rattle.line_demand.proofs.Carry.{sees, lifts, carries}
 use Rattle.line_demand.proofs.Reached.{passed}
 use Rattle.line_demand.proofs.Void.{small, small-limits}
 
@@ -70,11 +71,11 @@ module _ (lent : ℕ → Desk) (roomy : (j : ℕ) → Roomy small (lent j)) {v :
   is-voted = voted-project B M sees 1 m e w m e w (passes m) (passes e) (passes (λ i. w))
 
   put-in : {i j : ℕ} {ρ : List ℕ} (r : Run B) (q : Run M) → project B M sees r ≡ q → Put M i j ρ q → Put B i j ρ r
-  unfolding carries
+  unfolding carries lifted lifts
   put-in {i} {j} {ρ} r q h p = let (β, x, y) = put-back K r i j tt ρ (subst (Put M i j ρ) (sym h) p) in subst (λ a. Put B i j a r) (some-is y) x
 
   only : (i j : ℕ) (ρ : List ℕ) → Put B i j ρ run → Put M i j ρ (voted M 1 m e w)
-  unfolding carries
+  unfolding carries lifted lifts
   only i j ρ p = subst (Put M i j ρ) is-voted (put-on K tt refl p)
 
   -- ---- so it is fair, every record is handed over, and each board delivers
@@ -98,7 +99,7 @@ module _ (lent : ℕ → Desk) (roomy : (j : ℕ) → Roomy small (lent j)) {v :
 
   pub run-delivers : (d : Option (List ℕ)) → ((U : ℕ → Bool) (F : ℕ → List ℕ) → AllFour f U F → codeOf small .result v U F ≡ d) → (j : ℕ) → Board 4 j
       → Delivered B j d run
-  unfolding carries
+  unfolding carries lifted lifts
   run-delivers d is j b =
-      let (c, x, y) = delivered-back K run j tt d (subst (Delivered M j d) (sym is-voted) (delivers A (λ i. []) (λ i. []) G d is j b)) in
+      let (c, y, x) = delivered-back K run j tt d (subst (Delivered M j d) (sym is-voted) (delivers A (λ i. []) (λ i. []) G d is j b)) in
       subst (λ a. Delivered B j a run) (some-is y) x

@@ -13,6 +13,7 @@ pub mod Started
 pub mod Carry
 pub mod Reached
 pub mod Strings
+pub mod ByteStrings
 pub mod Demand
 pub mod Pins
 pub mod Void

@@ -16,7 +16,8 @@ use Rattle.line.specs.Run.{Run, Delivered, Fair, Over}
 use Rattle.line.proofs.Tests.{left, right}
 use Rattle.line_fragments.proofs.Spreads.{Correct, AllFour, mailed}
 use Rattle.line_fragments.proofs.Delivers.{encoded, message-back}
-use Rattle.line_code.specs.Parts.{bytes, Sendable, codeOf, lineOf}
+use Rattle.line.specs.Bytes.{bytes}
+use Rattle.line_code.specs.Parts.{Sendable, codeOf, lineOf}
 use Rattle.line_code.proofs.Codes.{code-laws}
 use Rattle.line_code.proofs.Lines.{line-laws}
 use Rattle.line_code.proofs.Mails.{mail-laws}

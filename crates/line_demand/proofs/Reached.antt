@@ -1,9 +1,9 @@
 -- What holds of a board of the line at every point of a run: it is started, its state is sound, and no step is refused with 2 or 3.
 use Prim.Native.Nat.{ℕ}
 use mathlib.Core.Bool.{Bool, true, not}
-use mathlib.Core.Path.{_≡_, refl, subst, ap}
+use mathlib.Core.Path.{_≡_, subst, ap}
 use mathlib.Core.List.{List}
-use mathlib.Core.Option.{Option, some, none}
+use mathlib.Core.Option.{Option, some}
 use lib.Dec.{T}
 use Rattle.octets.specs.Bytes.{pick}
 use Rattle.table.specs.Table.{limits, isBoard}
@@ -14,28 +14,21 @@ use Rattle.state.specs.Sound.{sound}
 use Rattle.board.specs.declared.Plan.the-variants.{Refuse}
 use Rattle.board.specs.Planned.{byForm, planOf}
 use Rattle.line.specs.Boards.{Board}
-use Rattle.line.specs.Run.{Machine, In, hand, tell, Run, state}
+use Rattle.line.specs.Run.{Machine, hand, Run, state}
 use Rattle.line.specs.Project.{project}
-use Rattle.line.proofs.Runs.{along}
 use Rattle.line.proofs.Projected.{shows}
-use Rattle.line.proofs.Tests.{none-some}
-use Rattle.line_demand.specs.Boards.{Desk, Roomy, next, boards}
+use Rattle.line.proofs.Lifted.{showsBy, lifted, started as always}
+use Rattle.line_demand.specs.Boards.{Desk, Roomy, fragmentBoard, boards}
 use Rattle.line_demand.proofs.Acts.{plan-is}
 use Rattle.line_demand.proofs.Started.{broadcast}
-use Rattle.line_demand.proofs.Carry.{sees, Holds, Shows, begun-some, carries}
+use Rattle.line_demand.proofs.Carry.{sees, Holds, begun-some, lifts, carries}
 
 module _ (b : Table) (limited : limits b ≡ true) (lent : ℕ → Desk) (keeps : ℕ → Bool) (roomy : (j : ℕ) → T (keeps j) → Roomy b (lent j)) where
   abbrev BB : Machine
   BB = boards b lent
 
-  goes-on : (o : Option Desk) (x : In BB) → (d : Desk) × (o ≡ some d) → (d : Desk) × (next b o x ≡ some d)
-  unfolding next
-  goes-on none x (d, e) = none-some d e
-  goes-on (some d) (tell l) h = (_, refl)
-  goes-on (some d) (hand i r) h = (_, refl)
-
-  pub started : (j : ℕ) → T (keeps j) → Board (b .n) j → (r : Run BB) → (d : Desk) × (state BB r j ≡ some d)
-  started j kj bd = along BB (λ q o. (d : Desk) × (o ≡ some d)) j (begun-some b j (lent j) (roomy j kj) limited bd) (λ q x h. goes-on (state BB q j) x h) (λ q k x h. h)
+  started : (j : ℕ) → T (keeps j) → Board (b .n) j → (r : Run BB) → (d : Desk) × (state BB r j ≡ some d)
+  started j kj bd = always (fragmentBoard b) lent j (begun-some b j (lent j) (roomy j kj) limited bd)
 
   -- so it takes what it is handed
   pub passed : (j : ℕ) → T (keeps j) → Board (b .n) j → (i : ℕ) (β : List ℕ) (q : Run BB) → sees (state BB q j) (hand i β) ≡ some (hand i β)
@@ -43,8 +36,8 @@ module _ (b : Table) (limited : limits b ≡ true) (lent : ℕ → Desk) (keeps 
 
   module _ (r : Run BB) (j : ℕ) (kj : T (keeps j)) (d : Desk) (here : state BB r j ≡ some d) where
     held : Holds b j d (state (broadcast b) (project BB (broadcast b) sees r) j)
-    unfolding carries
-    held = subst (λ o. Shows b j o (state (broadcast b) (project BB (broadcast b) sees r) j)) here (shows (carries b limited lent keeps roomy) r j kj)
+    unfolding carries lifted lifts
+    held = subst (λ o. showsBy (Holds b) j o (state (broadcast b) (project BB (broadcast b) sees r) j)) here (shows (carries b limited lent keeps roomy) r j kj)
 
     -- document 01: "Whatever state a start or a step leaves is sound."
     pub run-sound : sound (view (d .state)) ≡ true

@@ -9,12 +9,14 @@ use Rattle.table.specs.declared.Table.{Table}
 use Rattle.board.specs.Planned.{planOf}
 use Rattle.line.specs.Run.{Input, hand, tell}
 use Rattle.line.proofs.Tests.{none-some}
+use Rattle.line.proofs.Lifted.{showsBy}
 use Rattle.line_fragments.specs.Step.{BoardState}
 use Rattle.line_fragments.specs.Hashed.{hashedBy, hashes}
-use Rattle.line_code.specs.Parts.{bytes, lineOf}
+use Rattle.line.specs.Bytes.{bytes}
+use Rattle.line_code.specs.Parts.{lineOf}
 use Rattle.line_demand.specs.Boards.{Desk, Lend}
 use Rattle.line_demand.specs.Strings.{planStrings, stepStrings}
-use Rattle.line_demand.proofs.Carry.{sees, Holds, Shows, not-read, agreed}
+use Rattle.line_demand.proofs.Carry.{sees, Holds, not-read, agreed}
 
 module _ (b : Table) where
   handed-hashes : (j : ℕ) (d : Desk) (x : BoardState (lineOf b)) → Holds b j d x → (i : ℕ) (r y : List ℕ) → hashes (lineOf b) x (hand i r) y
@@ -26,7 +28,7 @@ module _ (b : Table) where
       go true e = agreed b j d x h i r e .hashes y (subst (λ (z : BoardState (lineOf b)). hashes (lineOf b) z (hand i r) y) (sym (h .shows)) q)
       go false e = absurd (subst (λ a. hashedBy (lineOf b) x a y) (not-read b x i r e) q)
 
-  pub step-hashes : (j : ℕ) (o : Option Desk) (x : BoardState (lineOf b)) → Shows b j o x → (w : Input Lend (List ℕ)) (z : Input ⊥ (List ℕ)) (y : List ℕ)
+  pub step-hashes : (j : ℕ) (o : Option Desk) (x : BoardState (lineOf b)) → showsBy (Holds b) j o x → (w : Input Lend (List ℕ)) (z : Input ⊥ (List ℕ)) (y : List ℕ)
       → sees o w ≡ some z → hashes (lineOf b) x z y → List·Memᴰ y (stepStrings o w)
   step-hashes j none x h w z y e q = none-some z e
   step-hashes j (some d) x h (tell l) z y e q = none-some z e

@@ -14,8 +14,8 @@ use Rattle.board.specs.Started.{startOf}
 use Rattle.board_send.specs.Sent.{sendOf}
 use Rattle.board_step.specs.Step.{Outcome, stepOf}
 use Rattle.line.specs.Boards.{Board}
-use Rattle.line.specs.Run.{Machine, Input, hand, tell}
-use Rattle.line_code.specs.Parts.{bytes}
+use Rattle.line.specs.Run.{Machine}
+use Rattle.line.specs.Bytes.{Left, Calls, byteLine}
 
 -- what a board holds: its state, and the outgoing record buffer and the delivery buffer that its firmware lends now
 pub record Desk : Type 0 where
@@ -37,14 +37,6 @@ abbrev pub lends : Desk → Lend → Bool → Desk
 lends d l true = record { state = d .state; out = l .out; delivery = l .delivery }
 lends d l false = d
 
--- "takes every record handed to it through this step": the record r from board i
-abbrev pub stepAt : Desk → ℕ → List ℕ → Outcome
-stepAt d i r = stepOf (d .state) i r (d .out) (d .delivery)
-
--- what a step leaves of the three buffers
-abbrev pub deskOf : Outcome → Desk
-deskOf w = record { state = w .state; out = w .out; delivery = w .delivery }
-
 -- the record put out, by the answer's record length: the first so many bytes of the outgoing buffer
 abbrev pub recordIn : ℕ → List ℕ → Option (List ℕ)
 recordIn zero o = none
@@ -56,31 +48,17 @@ deliveredIn zero size d = none
 deliveredIn (suc zero) size d = some (some (part 0 size d))
 deliveredIn (suc (suc x)) size d = some none
 
--- the record put out in what a step leaves
+-- the record put out in what a step leaves, "meant for all n boards"
 abbrev pub putIn : Outcome → Option (List ℕ)
 putIn w = recordIn (w .answer .«record_length») (w .out)
 
--- the delivery in what a step leaves
+-- "the delivery (none, message with length, void)" in what a step leaves
 abbrev pub givenIn : Outcome → Option (Option (List ℕ))
 givenIn w = deliveredIn (w .answer .delivery) (w .answer .«message_length») (w .delivery)
 
--- What is no string of bytes cannot be handed over. A board whose start was refused (its number is not 1 to n) takes nothing.
-unfoldable pub next : Table → Option Desk → Input Lend (List ℕ) → Option Desk
-next b none x = none
-next b (some d) (tell l) = some (lends d l (longEnough b l))
-next b (some d) (hand i r) = some (pick (bytes r) (deskOf (stepAt d i r)) d)
-
--- "meant for all n boards"
-unfoldable pub puts : Option Desk → Input Lend (List ℕ) → ℕ → Option (List ℕ)
-puts none x k = none
-puts (some d) (tell l) k = none
-puts (some d) (hand i r) k = pick (bytes r) (putIn (stepAt d i r)) none
-
--- "the delivery (none, message with length, void)"
-unfoldable pub gives : Option Desk → Input Lend (List ℕ) → Option (Option (List ℕ))
-gives none x = none
-gives (some d) (tell l) = none
-gives (some d) (hand i r) = pick (bytes r) (givenIn (stepAt d i r)) none
+-- what a step leaves of the three buffers, puts out and delivers
+abbrev pub leftIn : Outcome → Left Desk (Option (List ℕ))
+leftIn w = record { desk = record { state = w .state; out = w .out; delivery = w .delivery }; put = λ k. putIn w; given = givenIn w }
 
 -- "starts once": board j, with the buffers that it is lent
 unfoldable pub begin : Table → ℕ → Desk → Option Desk
@@ -88,18 +66,20 @@ begin b j d =
     pick (eqb (startOf b j (d .state) .number) 0)
     (some (record { state = startOf b j (d .state) .state; out = d .out; delivery = d .delivery })) none
 
+-- A board of the fragment broadcast, by its calls: it "takes every record handed to it through this step", and is lent other buffers.
+abbrev pub fragmentBoard : Table → Calls
+fragmentBoard b = record {
+  Desk = Desk;
+  Order = Lend;
+  Result = Option (List ℕ);
+  start = begin b;
+  step = λ d i r. leftIn (stepOf (d .state) i r (d .out) (d .delivery));
+  obey = λ d l. record { desk = lends d l (longEnough b l); put = λ k. none; given = none };
+}
+
 -- "n boards started fresh with one table"; lent: the buffers of each before its start, of whatever contents
 abbrev pub boards : Table → (ℕ → Desk) → Machine
-boards b lent = record {
-  State = Option Desk;
-  Order = Lend;
-  Rec = List ℕ;
-  Result = Option (List ℕ);
-  start = λ j. begin b j (lent j);
-  next = next b;
-  puts = puts;
-  gives = gives;
-}
+boards b lent = byteLine (fragmentBoard b) lent
 
 -- "buffers long enough", before a start: "A state buffer needs 4,608 + n × s_max bytes; an outgoing record buffer 16,619; a delivery buffer L"
 pub record Roomy (b : Table) (d : Desk) : Type 0 where

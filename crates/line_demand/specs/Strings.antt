@@ -21,7 +21,8 @@ use Rattle.board.specs.Stepped.{recordRoot, recordPath, recordFragment, marked,
 use Rattle.board_step.specs.Step.{placeOf, good, usableFor, keptOf}
 use Rattle.line.specs.Run.{Input, hand, tell, Run}
 use Rattle.line_fragments.specs.Hashed.{Hashed}
-use Rattle.line_code.specs.Parts.{bytes, freshStrings}
+use Rattle.line.specs.Bytes.{bytes}
+use Rattle.line_code.specs.Parts.{freshStrings}
 use Rattle.line_demand.specs.Boards.{Desk, Lend, boards}
 
 -- "in path checks of records that rule-keeping boards accept": of a send at the own number, of an echo at the sender's; a vote has no path
