@@ -7,11 +7,11 @@ use lib.Dec.{ltb}
 use Rattle.octets.specs.Bytes.{pick, put, two}
 use Rattle.table.specs.Table.{limits, isBoard}
 use Rattle.table.specs.declared.Table.{Table}
-use Rattle.state.specs.State.{fixedBytes, stateSize}
+use Rattle.state.specs.State.{marksAt, fixedBytes, stateSize}
 
 -- the first 4,608 bytes of a fresh state: the table and the own number, no flag, no board heard, all else zero
 unfoldable pub freshBytes : Table → ℕ → List ℕ
-freshBytes b own = b .n ∷ b .t ∷ b .sender ∷ own ∷ (two (b .longest) ++ replicate (fixedBytes - 6) 0)
+freshBytes b own = b .n ∷ b .t ∷ b .sender ∷ own ∷ (two (b .longest) ++ replicate (fixedBytes - marksAt) 0)
 
 -- what a start leaves: its answer, and the state lent
 pub record Begun : Type 0 where

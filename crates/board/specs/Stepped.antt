@@ -10,7 +10,7 @@ use lib.Dec.{leb, eqb}
 use Rattle.octets.specs.Bytes.{pick, part, put, two}
 use Rattle.table.specs.Table.{kOf, sMax, mostOf, someOf}
 use Rattle.table.specs.declared.Table.{Table}
-use Rattle.state.specs.State.{fixedBytes, tableOf, marksOf, marksBytes, lenAt, echoAt, voteAt, fragmentAt}
+use Rattle.state.specs.State.{marksAt, fixedBytes, tableOf, marksOf, marksBytes, lenAt, echoAt, voteAt, fragmentAt}
 use Rattle.state.specs.Sound.{naming}
 use Rattle.state.specs.declared.Marks.{Marks}
 
@@ -92,7 +92,7 @@ unfoldable pub leaves : Bool → ℕ → ℕ → ℕ → ℕ → List ℕ → Li
 leaves good k p f from r s =
     let b = tableOf s in
     let s1 = kept (sMax b) k (from - 1) p f r s in
-    put 6 (marksBytes (settledTo b (not (eqb k 1)) (marked k (from - 1) good (marksOf s)) s1 (recordRoot r))) s1
+    put marksAt (marksBytes (settledTo b (not (eqb k 1)) (marked k (from - 1) good (marksOf s)) s1 (recordRoot r))) s1
 
 -- what keeping a record of p nodes and f fragment bytes of board i + 1 asks of the buffers
 pub record KeptRoom (s r : List ℕ) (max i p f : ℕ) : Type 0 where

@@ -6,6 +6,9 @@ use record::write_parts;
 use state::ECHO_ROOTS;
 use state::FIXED_BYTES;
 use state::KEPT_LENGTHS;
+use state::LONGEST;
+use state::MARKS;
+use state::OWN;
 use state::VOTE_ROOTS;
 use state::state_size;
 use table::Table;
@@ -24,7 +27,7 @@ ghost use Rattle.board.specs.Stepped.{recordRoot, recordPath, recordFrag
 ghost use Rattle.board.specs.Started.{freshBytes, begun, startOf};
 
 // How many bytes of a state follow the table and the own number, before the fragments.
-const AFTER_TABLE: usize = FIXED_BYTES - 6;
+const AFTER_TABLE: usize = FIXED_BYTES - MARKS;
 
 // What is to be done with a record: refuse it with a number, or take it.
 pub enum Plan {
@@ -77,9 +80,9 @@ fn write_fresh(s: &mut [u8], b: Table, own: usize)
     s[0] = b.n as u8;
     s[1] = b.t as u8;
     s[2] = b.sender as u8;
-    s[3] = own as u8;
-    put_two(s, 4, b.longest);
-    clear_at(s, 6, AFTER_TABLE);
+    s[OWN] = own as u8;
+    put_two(s, LONGEST, b.longest);
+    clear_at(s, MARKS, AFTER_TABLE);
 }
 
 // A start: 0, or a refusal's number.

@@ -17,7 +17,7 @@ use Rattle.field.specs.Field.{add, double, times, mul}
 use Rattle.field.proofs.Laws as L
 use Rattle.field.proofs.Bits.{product-times}
 use Rattle.code_sum.specs.Sums.{cell, total, weighed}
-use Rattle.code_sum.specs.Blocks.{picked}
+use Rattle.code_sum.specs.Blocks.{Summed, Low, picked}
 use Rattle.code_sum.proofs.Totals.{total-same, total-zero}
 
 -- ---- one product
@@ -109,11 +109,21 @@ module _ (area : List ℕ) (s : ℕ) (xs ws : List ℕ) (c n : ℕ) where
 -- ---- bytes
 
 -- w bytes copied to the front
-pub fronted : (w : ℕ) (sum old new : List ℕ) → w ≤ length sum → w ≤ length old → new ≡ put 0 (part 0 w sum) old → (i : ℕ) → i < w → getD new i 0 ≡ getD sum i 0
+fronted : (w : ℕ) (sum old new : List ℕ) → w ≤ length sum → w ≤ length old → new ≡ put 0 (part 0 w sum) old → (i : ℕ) → i < w → getD new i 0 ≡ getD sum i 0
 fronted w sum old new h g e i b =
     let l : length (part 0 w sum) ≡ w = length-part 0 w sum (omega arith) in
     ap₂ (λ (t : List ℕ) (p : ℕ). getD t p 0) e (sym (N.zero-add i)) ∙ getD-put-in (part 0 w sum) old 0 i (omega arith) (omega arith)
     ∙ getD-part 0 w i sum b ∙ ap (λ (p : ℕ). getD sum p 0) (N.zero-add i)
+
+-- w sums that are copied to the front of a buffer, whatever w is: the two widths that a block is put out by are two functions, since the compiler
+-- keeps the sums in registers only where the width is a number
+pub sums-fronted : (area : List ℕ) (s : ℕ) (xs ws : List ℕ) (c w : ℕ) (sum old new : List ℕ) → Summed area s xs ws c w sum → w ≤ length sum → w ≤ length old
+    → new ≡ put 0 (part 0 w sum) old → Summed area s xs ws c w new
+sums-fronted area s xs ws c w sum old new h l g e i b = fronted w sum old new l g e i b ∙ h i b
+
+-- what summing up by the bits of the weights asks for, where no weight is above top, which takes so many bits
+pub bits-enough : (ws : List ℕ) (top bits : ℕ) → ((j : ℕ) → j < length ws → getD ws j 0 ≤ top) → (bits ≤ 8) × (top < 2 ^ bits) → (bits ≤ 8) × Low bits ws
+bits-enough ws top bits most w = (w .0, λ j h. N.lt-of-le-of-lt (most j h) (w .1))
 
 -- byte i from c on, counted from an earlier place on
 pub moved : (area : List ℕ) (s : ℕ) (xs ws : List ℕ) (c at i : ℕ) → at ≤ c → weighed area s xs ws (at + (c - at + i)) (length xs) ≡ weighed area s xs ws (c + i) (length xs)

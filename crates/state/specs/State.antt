@@ -14,6 +14,27 @@ use Rattle.state.specs.declared.Marks.{Marks}
 abbrev pub fixedBytes : ℕ
 fixedBytes = 4608
 
+-- the table's n, t and S are the first three bytes; where the own number and L stand
+abbrev pub ownAt : ℕ
+ownAt = 3
+
+abbrev pub longestAt : ℕ
+longestAt = 4
+
+-- where the flags and sets begin: acquired, voted, output stage, done, a byte each
+abbrev pub marksAt : ℕ
+marksAt = 6
+
+-- the sets of boards: echoes heard, usable echoes, votes heard, eight bytes each
+abbrev pub echoesAt : ℕ
+echoesAt = 10
+
+abbrev pub usableAt : ℕ
+usableAt = 18
+
+abbrev pub votesAt : ℕ
+votesAt = 26
+
 -- where the kept lengths, the echoes' roots and the votes' roots begin
 abbrev pub keptLengths : ℕ
 keptLengths = 40
@@ -52,22 +73,22 @@ stateSize b = fixedBytes + b .n * sMax b
 
 -- "these four are the table"
 unfoldable pub tableOf : List ℕ → Table
-tableOf s = record { n = getD s 0 0; t = getD s 1 0; sender = getD s 2 0; longest = twoAt s 4 }
+tableOf s = record { n = getD s 0 0; t = getD s 1 0; sender = getD s 2 0; longest = twoAt s longestAt }
 
 -- "the own number goes beside it at a start and in a state"
 unfoldable pub ownOf : List ℕ → ℕ
-ownOf s = getD s 3 0
+ownOf s = getD s ownAt 0
 
 -- four flags; "boards heard are kept as 64-bit sets"
 unfoldable pub marksOf : List ℕ → Marks
 marksOf s = record {
-  acquired = flag s 6;
-  voted = flag s 7;
-  output = flag s 8;
-  done = flag s 9;
-  echoes = eightAt s 10;
-  usable = eightAt s 18;
-  votes = eightAt s 26;
+  acquired = flag s marksAt;
+  voted = flag s (marksAt + 1);
+  output = flag s (marksAt + 2);
+  done = flag s (marksAt + 3);
+  echoes = eightAt s echoesAt;
+  usable = eightAt s usableAt;
+  votes = eightAt s votesAt;
 }
 
 -- the marks as bytes

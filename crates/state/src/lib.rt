@@ -16,11 +16,33 @@ ghost use lib.Count.{ones};
 ghost use Rattle.octets.specs.Bytes.{part, put, same};
 ghost use Rattle.octets.specs.Sets.{has, bit};
 ghost use Rattle.table.specs.Table.{limits};
-ghost use Rattle.state.specs.State.{voteRoots, fixedBytes, stateSize, tableOf, ownOf, marksOf, marksBytes};
+ghost use Rattle.state.specs.State.{marksAt, voteRoots, fixedBytes, stateSize, tableOf, ownOf, marksOf, marksBytes};
 ghost use Rattle.state.specs.Sound.{naming};
 
 // The first bytes of a state, all that soundness looks at; the fragments kept follow.
 pub const FIXED_BYTES: usize = 4608;
+
+// Where the own number and L stand; the table's n, t and S are the first three bytes.
+pub const OWN: usize = 3;
+
+pub const LONGEST: usize = 4;
+
+// Where the flags, a byte each, and the sets, eight bytes each, begin.
+pub const MARKS: usize = 6;
+
+const ACQUIRED: usize = MARKS;
+
+const VOTED: usize = 7;
+
+const OUTPUT: usize = 8;
+
+const DONE: usize = 9;
+
+const ECHOES: usize = 10;
+
+const USABLE: usize = 18;
+
+const VOTES: usize = 26;
 
 // Where the kept lengths, the echoes' roots and the votes' roots begin.
 pub const KEPT_LENGTHS: usize = 40;
@@ -57,7 +79,7 @@ pub fn read_table(s: &[u8]) -> Table
         n: wide(s[0]),
         t: wide(s[1]),
         sender: wide(s[2]),
-        longest: two_at(s, 4),
+        longest: two_at(s, LONGEST),
     }
 }
 
@@ -66,7 +88,7 @@ pub fn read_own(s: &[u8]) -> usize
     requires { ⌜ fixedBytes ≤ length (now s) ⌝ }
     ensures { λ r. ⌜ r ≡ ownOf (now (s .entry)) ⌝ }
 {
-    wide(s[3])
+    wide(s[OWN])
 }
 
 // The flags and sets in a state.
@@ -75,13 +97,13 @@ pub fn read_marks(s: &[u8]) -> Marks
     ensures { λ r. ⌜ r ≡ marksOf (now (s .entry)) ⌝ }
 {
     Marks {
-        acquired: s[6] != 0,
-        voted: s[7] != 0,
-        output: s[8] != 0,
-        done: s[9] != 0,
-        echoes: eight_at(s, 10),
-        usable: eight_at(s, 18),
-        votes: eight_at(s, 26),
+        acquired: s[ACQUIRED] != 0,
+        voted: s[VOTED] != 0,
+        output: s[OUTPUT] != 0,
+        done: s[DONE] != 0,
+        echoes: eight_at(s, ECHOES),
+        usable: eight_at(s, USABLE),
+        votes: eight_at(s, VOTES),
     }
 }
 
@@ -95,15 +117,15 @@ fn flag_byte(b: bool) -> u8
 // The flags and sets put into a state.
 pub fn write_marks(s: &mut [u8], m: Marks)
     requires { ⌜ fixedBytes ≤ length (now s) ⌝ }
-    ensures { λ _. ⌜ now (s .exit) ≡ put 6 (marksBytes m) (now (s .entry)) ⌝ }
+    ensures { λ _. ⌜ now (s .exit) ≡ put marksAt (marksBytes m) (now (s .entry)) ⌝ }
 {
-    s[6] = flag_byte(m.acquired);
-    s[7] = flag_byte(m.voted);
-    s[8] = flag_byte(m.output);
-    s[9] = flag_byte(m.done);
-    put_eight(s, 10, m.echoes);
-    put_eight(s, 18, m.usable);
-    put_eight(s, 26, m.votes);
+    s[ACQUIRED] = flag_byte(m.acquired);
+    s[VOTED] = flag_byte(m.voted);
+    s[OUTPUT] = flag_byte(m.output);
+    s[DONE] = flag_byte(m.done);
+    put_eight(s, ECHOES, m.echoes);
+    put_eight(s, USABLE, m.usable);
+    put_eight(s, VOTES, m.votes);
 }
 
 // A set's lowest bit.

@@ -1,11 +1,9 @@
 -- `code_sum::put_block` meets its contract.
 -- Assumes nothing.
 use borrow.Author.Needs.{needs}
-use mathlib.Core.Path.{_∙_}
-use native.Mathlib.Nat as N
 use native.Mathlib.Omega.{arith}
 use lib.ListN.{getD-replicate}
-use Rattle.code_sum.proofs.Bitwise.{fronted}
+use Rattle.code_sum.proofs.Bitwise.{sums-fronted, bits-enough}
 use Rattle.code_sum.proofs.put_block.Statement.{statement}
 use Rattle.code_sum.proofs.put_block.Tie as tie
 
@@ -14,15 +12,18 @@ width-requires c κs = tt
 
 sum-up-requires : tie.Need-sum-up-requires
 sum-up-requires c κs =
-    let w = c .before .width .ensures in
-    (c .before .before .before .before .before .before .before .pre .0, w .0, (λ j h. N.lt-of-le-of-lt (c .before .before .largest .ensures j h) (w .1)), omega arith, λ i h. getD-replicate 64 i 0 0 h)
+    let s = c .before .before .before .before .before .before .before in
+    let top = c .before .before .largest in
+    let few = bits-enough (s .args .ws .now) (top .result) (c .before .width .result) (top .ensures) (c .before .width .ensures) in
+    (s .pre .0, few .0, few .1, omega arith, λ i h. getD-replicate 64 i 0 0 h)
 
 returns : tie.Need-returns
 returns c =
     let s = c .before .before .before .before .before .before .before .before .before .before .before .before .before .before in
     let u = c .before .before .before .before .before .before .sum-up in
     let v = c .before .before .copy-part in
-    λ i h. fronted 64 (u .last .1 .1 .1 .1 .1 .1 .1 .0) (s .args .out .now) (v .last .0) (omega (arith, u .kept .1 .1 .1 .1 .1 .1 .1 .0)) (s .pre .1) (v .ensures) i h ∙ u .ensures i h
+    sums-fronted _ _ _ _ _ 64 (u .last .1 .1 .1 .1 .1 .1 .1 .0) (s .args .out .now) (v .last .0) (u .ensures)
+    (omega (arith, u .kept .1 .1 .1 .1 .1 .1 .1 .0)) (s .pre .1) (v .ensures)
 
 pub put-block-spec : {M : Type 1} → statement M
 put-block-spec =
