@@ -14,24 +14,27 @@ use Rattle.state.specs.declared.Marks.{Marks}
 abbrev pub fixedBytes : ℕ
 fixedBytes = 4608
 
--- the table's n, t and S are the first three bytes; where the own number and L stand
+-- where the own number stands, after the table's n, t and S, the first three bytes
 abbrev pub ownAt : ℕ
 ownAt = 3
 
+-- where L stands, in two bytes
 abbrev pub longestAt : ℕ
 longestAt = 4
 
--- where the flags and sets begin: acquired, voted, output stage, done, a byte each
+-- where the flags begin, a byte each: acquired, voted, output stage, done
 abbrev pub marksAt : ℕ
 marksAt = 6
 
--- the sets of boards: echoes heard, usable echoes, votes heard, eight bytes each
+-- where the set of boards whose echo was heard stands, in eight bytes
 abbrev pub echoesAt : ℕ
 echoesAt = 10
 
+-- where the set of boards whose echo is usable stands
 abbrev pub usableAt : ℕ
 usableAt = 18
 
+-- where the set of boards whose vote was heard stands
 abbrev pub votesAt : ℕ
 votesAt = 26
 
