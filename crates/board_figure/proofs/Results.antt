@@ -27,7 +27,7 @@ use Rattle.code_through.proofs.Agree.{length-fragment, apart-first, bytes-first
 use Rattle.code_through.proofs.Interpolation.{through-rebuilds, rebuilds-through}
 use Rattle.state.specs.State.{lenAt, fragmentAt}
 use Rattle.state.specs.declared.Marks.{Marks}
-use Rattle.deliver.specs.Delivered.{allOfLength, messageIn, readFrom, afresh, resultFrom, resultOf}
+use Rattle.deliver.specs.Delivered.{allOfLength, blockRead, readFrom, afresh, resultFrom, resultOf}
 use Rattle.deliver.proofs.Lengths.{lengths-at, at-lengths}
 use Rattle.deliver.proofs.Results.{result-same}
 use Rattle.board_step.specs.Step.{usableFor, keptOf, resultIn}
@@ -54,7 +54,7 @@ module _ (b : Table) (r I : List ℕ) (f : ℕ → List ℕ) (pos : 0 < kOf b) (
     even : (i : ℕ) → i < length I → length (f (getD I i 0)) ≡ len
     even i h = ap length (sym (g .same i h)) ∙ length-fragment (kOf b) len pos d (g .size) (getD I i 0)
 
-    by-block : resultFrom b r I f ≡ afresh b r (messageIn b d)
+    by-block : resultFrom b r I f ≡ afresh b r (blockRead b d)
     unfolding resultFrom readFrom pick
     by-block =
         let one : length (f (getD I 0 0)) ≡ len = even 0 (omega arith) in
@@ -64,7 +64,7 @@ module _ (b : Table) (r I : List ℕ) (f : ℕ → List ℕ) (pos : 0 < kOf b) (
 
   -- so what is output is one thing
   output-is : (m : Option (List ℕ)) → Output b r I f m → resultFrom b r I f ≡ m
-  unfolding resultFrom readFrom messageIn afresh pick
+  unfolding resultFrom readFrom blockRead afresh pick
   output-is m (message len d g e q) = by-block len d g ∙ rw (e, q, same-self r)
   output-is m (other-root len d g e q) =
       let n : same (rootAfresh b d) r ≡ false = fails _ (λ z. q (same-equal _ r z)) in
@@ -91,10 +91,10 @@ module _ (b : Table) (r I : List ℕ) (f : ℕ → List ℕ) (pos : 0 < kOf b) (
 
   -- and there is one, where the fragments are bytes
   output-there : ((x d : ℕ) → getD (f x) d 0 < 256) → Output b r I f (resultFrom b r I f)
-  unfolding resultFrom readFrom messageIn afresh pick
+  unfolding resultFrom readFrom blockRead afresh pick
   output-there small = go (allOfLength (length (f (getD I 0 0))) I f) refl
     where
-      go : (c : Bool) → allOfLength (length (f (getD I 0 0))) I f ≡ c → Output b r I f (afresh b r (pick c (messageIn b (blockThrough (length (f (getD I 0 0))) I f)) none))
+      go : (c : Bool) → allOfLength (length (f (getD I 0 0))) I f ≡ c → Output b r I f (afresh b r (pick c (blockRead b (blockThrough (length (f (getD I 0 0))) I f)) none))
       go true e =
           let len = length (f (getD I 0 0)) in
           read-out len (rw size at (through-rebuilds I f len (omega arith) apart bytes small (lengths-at len I f e))) _ refl

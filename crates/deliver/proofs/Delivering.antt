@@ -31,7 +31,7 @@ use Rattle.code_through.proofs.Agree.{boards, apart-first, enough-marks, length
 use Rattle.tree.specs.Tree.{rootOf}
 use Rattle.octets.proofs.Parts.{part-all}
 use Rattle.deliver.specs.declared.Delivered.{Delivered}
-use Rattle.deliver.specs.Delivered.{allOfLength, messageIn, readFrom, afresh, resultFrom, Left, left, leftBy}
+use Rattle.deliver.specs.Delivered.{allOfLength, blockRead, readFrom, afresh, resultFrom, Left, left, leftBy}
 use Rattle.deliver_afresh.specs.Working.{Anew}
 use Rattle.deliver.specs.Working.{freshByte, Readied}
 use Rattle.deliver.proofs.Fresh.{anew}
@@ -59,7 +59,7 @@ rows-before k m len pos more e =
     omega (arith, N.div-mul-le-self x k, ap (λ (n : ℕ). n * k) e)
 
 -- the block cannot be read
-pub refused : (b : Table) (k len : ℕ) (given l : List ℕ) → ((root : List ℕ) → afresh b root (messageIn b given) ≡ none) → Readied b k len given 16385 l
+pub refused : (b : Table) (k len : ℕ) (given l : List ℕ) → ((root : List ℕ) → afresh b root (blockRead b given) ≡ none) → Readied b k len given 16385 l
 refused b k len given l h = record {
   unread = λ g. h;
   size = λ g. absurd (omega arith);
@@ -96,20 +96,20 @@ module _ (b : Table) (root given : List ℕ) (k len size : ℕ) (limited : limit
   whole-rows = whole ∙ ap (λ (k : ℕ). len * k) ek
 
   -- a block that cannot be read
-  unread : (Readable (kOf b) (b .longest) given → ⊥) → afresh b root (messageIn b given) ≡ none
-  unfolding afresh messageIn pick
+  unread : (Readable (kOf b) (b .longest) given → ⊥) → afresh b root (blockRead b given) ≡ none
+  unfolding afresh blockRead pick
   unread never =
       ap (λ (c : Bool). afresh b root (pick c (some (blockMessage given)) none))
       (never-true (readable (kOf b) (b .longest) given) (λ e. never (readable-facts (kOf b) (b .longest) given pos e)))
 
-  pub unread-short : len * k < 4 → afresh b root (messageIn b given) ≡ none
+  pub unread-short : len * k < 4 → afresh b root (blockRead b given) ≡ none
   unread-short h = unread (λ r. omega (arith, r .inside))
 
   module _ (e : size ≡ fourAt given 0) where
-    pub unread-long : b .longest < size → afresh b root (messageIn b given) ≡ none
+    pub unread-long : b .longest < size → afresh b root (blockRead b given) ≡ none
     unread-long h = unread (λ r. omega (arith, r .fits))
 
-    pub unread-rows : (rows k size ≡ len → ⊥) → afresh b root (messageIn b given) ≡ none
+    pub unread-rows : (rows k size ≡ len → ⊥) → afresh b root (blockRead b given) ≡ none
     unread-rows differ =
         unread (λ r. differ (ap₂ rows ek e ∙ sym (N.mul-div-cancel (rows (kOf b) (fourAt given 0)) pos)
         ∙ ap (λ (n : ℕ). n / kOf b) (sym (r .whole) ∙ whole-rows) ∙ N.mul-div-cancel len pos))
@@ -148,23 +148,23 @@ module _ (b : Table) (root given : List ℕ) (k len size : ℕ) (limited : limit
         compared : (c : Bool) → c ≡ same (part 0 32 fresh) (part 0 32 root) → same (rootOf (b .n) (fragmentFor b (blockMessage given))) root ≡ c
         compared c h = sym (h ∙ ap₂ same er (part-all 32 root lr))
 
-        by-root : (c : Bool) → c ≡ same (part 0 32 fresh) (part 0 32 root) → afresh b root (messageIn b given) ≡ pick c (some (blockMessage given)) none
-        unfolding afresh messageIn pick
+        by-root : (c : Bool) → c ≡ same (part 0 32 fresh) (part 0 32 root) → afresh b root (blockRead b given) ≡ pick c (some (blockMessage given)) none
+        unfolding afresh blockRead pick
         by-root c h =
             ap (λ (c : Bool). afresh b root (pick c (some (blockMessage given)) none)) reads
             ∙ ap (λ (c : Bool). pick c (some (blockMessage given)) none) (compared c h)
 
-        pub root-differs : (c : Bool) → c ≡ false → c ≡ same (part 0 32 fresh) (part 0 32 root) → afresh b root (messageIn b given) ≡ none
+        pub root-differs : (c : Bool) → c ≡ false → c ≡ same (part 0 32 fresh) (part 0 32 root) → afresh b root (blockRead b given) ≡ none
         unfolding pick
         root-differs c n h = by-root c h ∙ ap (λ (c : Bool). pick c (some (blockMessage given)) none) n
 
         pub root-same : (c : Bool) → c ≡ true → c ≡ same (part 0 32 fresh) (part 0 32 root) → (r : Delivered) (old new : List ℕ)
-            → r .kind ≡ 1 → r .length ≡ size → new ≡ put 0 (part 4 size given) old → left r new ≡ leftBy (afresh b root (messageIn b given)) old
+            → r .kind ≡ 1 → r .length ≡ size → new ≡ put 0 (part 4 size given) old → left r new ≡ leftBy (afresh b root (blockRead b given)) old
         root-same c y h r old new e1 e2 en =
             ap₂ (λ (k l : ℕ). leaves k l new) e1 e2 ∙ ap (leaves 1 size) en ∙ message-left size given old e (facts .size)
             ∙ ap (λ (o : Option (List ℕ)). leftBy o old) (sym (picked c y h))
           where
-            picked : (c : Bool) → c ≡ true → c ≡ same (part 0 32 fresh) (part 0 32 root) → afresh b root (messageIn b given) ≡ some (blockMessage given)
+            picked : (c : Bool) → c ≡ true → c ≡ same (part 0 32 fresh) (part 0 32 root) → afresh b root (blockRead b given) ≡ some (blockMessage given)
             picked c y h = by-root c h ∙ ap (λ (c : Bool). pick c (some (blockMessage given)) none) y ∙ pick-true (blockMessage given)
 
 -- ---- the kept fragments
@@ -216,16 +216,16 @@ sized lengths area s xs inside sizes i h =
     length-part ((x - 1) * s) n area (omega (arith, room x s 0 n (length area) (p .0) (omega (arith, sizes i h .1)) (p .2)))
 
 module _ (b : Table) (root xs : List ℕ) (fragment : ℕ → List ℕ) (len : ℕ) (e : len ≡ length (fragment (getD xs 0 0))) (c : Bool) (h : c ≡ allOfLength len xs fragment) where
-  by-lengths : readFrom b xs fragment ≡ pick c (messageIn b (blockThrough len xs fragment)) none
+  by-lengths : readFrom b xs fragment ≡ pick c (blockRead b (blockThrough len xs fragment)) none
   unfolding readFrom
   by-lengths =
-      ap (λ (n : ℕ). pick (allOfLength n xs fragment) (messageIn b (blockThrough n xs fragment)) none) (sym e)
-      ∙ ap (λ (c : Bool). pick c (messageIn b (blockThrough len xs fragment)) none) (sym h)
+      ap (λ (n : ℕ). pick (allOfLength n xs fragment) (blockRead b (blockThrough n xs fragment)) none) (sym e)
+      ∙ ap (λ (c : Bool). pick c (blockRead b (blockThrough len xs fragment)) none) (sym h)
 
   pub unequal : c ≡ false → resultFrom b root xs fragment ≡ none
   unfolding resultFrom afresh pick
-  unequal n = ap (afresh b root) (by-lengths ∙ ap (λ (c : Bool). pick c (messageIn b (blockThrough len xs fragment)) none) n)
+  unequal n = ap (afresh b root) (by-lengths ∙ ap (λ (c : Bool). pick c (blockRead b (blockThrough len xs fragment)) none) n)
 
-  pub equal : c ≡ true → resultFrom b root xs fragment ≡ afresh b root (messageIn b (blockThrough len xs fragment))
+  pub equal : c ≡ true → resultFrom b root xs fragment ≡ afresh b root (blockRead b (blockThrough len xs fragment))
   unfolding resultFrom pick
-  equal y = ap (afresh b root) (by-lengths ∙ ap (λ (c : Bool). pick c (messageIn b (blockThrough len xs fragment)) none) y)
+  equal y = ap (afresh b root) (by-lengths ∙ ap (λ (c : Bool). pick c (blockRead b (blockThrough len xs fragment)) none) y)

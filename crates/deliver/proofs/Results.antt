@@ -29,7 +29,7 @@ use Rattle.code_through.proofs.Agree.{apart-first, bytes-first, enough-marks, l
 use Rattle.code_through.proofs.Encoded.{bytes-block}
 use Rattle.code_through.proofs.Interpolation.{block-through}
 use Rattle.tree.specs.Tree.{rootOf}
-use Rattle.deliver.specs.Delivered.{allOfLength, messageIn, readFrom, afresh, resultFrom, resultOf}
+use Rattle.deliver.specs.Delivered.{allOfLength, blockRead, readFrom, afresh, resultFrom, resultOf}
 use Rattle.deliver.proofs.Lengths.{at-lengths}
 use Rattle.deliver.proofs.Delivering.{equal}
 
@@ -52,8 +52,8 @@ module _ (f g : ℕ → List ℕ) where
   unfolding readFrom
   read-same b xs pos h =
       let n = length (f (getD xs 0 0)) in
-      ap₂ (λ (c : Bool) (l : List ℕ). pick c (messageIn b l) none) (same-lengths n xs h) (same-block n xs h)
-      ∙ ap (λ (l : List ℕ). pick (allOfLength (length l) xs g) (messageIn b (blockThrough (length l) xs g)) none) (h 0 pos)
+      ap₂ (λ (c : Bool) (l : List ℕ). pick c (blockRead b l) none) (same-lengths n xs h) (same-block n xs h)
+      ∙ ap (λ (l : List ℕ). pick (allOfLength (length l) xs g) (blockRead b (blockThrough (length l) xs g)) none) (h 0 pos)
 
   from-same : (b : Table) (root xs : List ℕ) → 0 < length xs → ((i : ℕ) → i < length xs → f (getD xs i 0) ≡ g (getD xs i 0))
       → resultFrom b root xs f ≡ resultFrom b root xs g
@@ -63,8 +63,8 @@ module _ (f g : ℕ → List ℕ) where
 -- ---- a message's own block
 
 own-block : (b : Table) (message : List ℕ) → limits b ≡ true → length message ≤ b .longest
-    → afresh b (rootOf (b .n) (fragmentFor b message)) (messageIn b (block (kOf b) message)) ≡ some message
-unfolding afresh messageIn pick
+    → afresh b (rootOf (b .n) (fragmentFor b message)) (blockRead b (block (kOf b) message)) ≡ some message
+unfolding afresh blockRead pick
 own-block b message limited fits =
     let w = within b limited in
     let k = kOf b in
@@ -120,7 +120,7 @@ module _ (b : Table) (set : ℕ) (limited : limits b ≡ true) (below : set / 2 
       let l = length-fragment (kOf b) pos message in
       result-same root fragment own (λ i g y. h i g y ∙ own-fragment b message i)
       ∙ equal b root points own len (sym (l (getD points 0 0))) true (sym (at-lengths len points own (λ i g. l (getD points i 0)))) refl
-      ∙ ap (λ (l : List ℕ). afresh b root (messageIn b l))
+      ∙ ap (λ (l : List ℕ). afresh b root (blockRead b l))
       (block-through points own len (block (kOf b) message) (omega (arith, size, pos)) (apart-first (b .n) set few (kOf b)) (bytes-first (b .n) set few (kOf b))
       (length-block (kOf b) pos message ∙ ap (λ (n : ℕ). rows (kOf b) (length message) * n) (sym size)) (bytes-block (kOf b) message bytes)
       (λ i g. ap (λ (n : ℕ). fragmentOf n (block (kOf b) message) (getD points i 0)) size))
@@ -145,7 +145,7 @@ pub record Read (b : Table) (xs : List ℕ) (fragment : ℕ → List ℕ) (m : L
   pub reads : readable (kOf b) (b .longest) (blockThrough (length (fragment (getD xs 0 0))) xs fragment) ≡ true
 
 pub read-why : (b : Table) (xs : List ℕ) (fragment : ℕ → List ℕ) (m : List ℕ) → readFrom b xs fragment ≡ some m → Read b xs fragment m
-unfolding readFrom messageIn
+unfolding readFrom blockRead
 read-why b xs fragment m e =
     let d = blockThrough (length (fragment (getD xs 0 0))) xs fragment in
     let p = some-picked (readable (kOf b) (b .longest) d) (some (blockMessage d)) m (some-picked (allOfLength (length (fragment (getD xs 0 0))) xs fragment) _ m e .1) in

@@ -20,14 +20,14 @@ allOfLength len [] fragment = true
 allOfLength len (x ∷ xs) fragment = eqb (length (fragment x)) len && allOfLength len xs fragment
 
 -- "read the block": the message that stands in it, if it can be read
-unfoldable pub messageIn : Table → List ℕ → Option (List ℕ)
-messageIn b block = pick (readable (kOf b) (b .longest) block) (some (blockMessage block)) none
+unfoldable pub blockRead : Table → List ℕ → Option (List ℕ)
+blockRead b block = pick (readable (kOf b) (b .longest) block) (some (blockMessage block)) none
 
 -- "rebuild from the k lowest-numbered ones; read the block": the boards xs; "Unequal lengths or an unreadable block" give none
 unfoldable pub readFrom : Table → List ℕ → (ℕ → List ℕ) → Option (List ℕ)
 readFrom b xs fragment =
     let len = length (fragment (getD xs 0 0)) in
-    pick (allOfLength len xs fragment) (messageIn b (blockThrough len xs fragment)) none
+    pick (allOfLength len xs fragment) (blockRead b (blockThrough len xs fragment)) none
 
 -- "encode the message afresh; if the new root is the same, deliver the message, else deliver void": none is void
 unfoldable pub afresh : Table → List ℕ → Option (List ℕ) → Option (List ℕ)

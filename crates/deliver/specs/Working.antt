@@ -11,7 +11,7 @@ use Rattle.table.specs.declared.Table.{Table}
 use Rattle.code.specs.Block.{rows}
 use Rattle.code_through.specs.Sums.{Master, Scales}
 use Rattle.deliver_afresh.specs.Working.{Made}
-use Rattle.deliver.specs.Delivered.{messageIn, afresh}
+use Rattle.deliver.specs.Delivered.{blockRead, afresh}
 
 -- l is row c of the block b, in rows of k bytes
 abbrev pub Row : ℕ → List ℕ → ℕ → List ℕ → Type 0
@@ -28,7 +28,7 @@ freshByte end b p = pick (ltb p end) (getD b p 0) 0
 -- the block `given` of len rows of k bytes is read: r is its message's length and l the last row of the block that is encoded afresh; or r is above
 -- 16384, and nothing can be delivered
 pub record Readied (b : Table) (k len : ℕ) (given : List ℕ) (r : ℕ) (l : List ℕ) : Type 0 where
-  pub unread : 16384 < r → (root : List ℕ) → afresh b root (messageIn b given) ≡ none
+  pub unread : 16384 < r → (root : List ℕ) → afresh b root (blockRead b given) ≡ none
   pub size : r ≤ 16384 → r ≡ fourAt given 0
   pub enough : r ≤ 16384 → 4 ≤ len * k
   pub fits : r ≤ 16384 → r ≤ b .longest

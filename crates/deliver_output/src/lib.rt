@@ -19,7 +19,7 @@ ghost use Rattle.code.specs.Code.{Apart};
 ghost use Rattle.code_sum.specs.Sums.{InArea, weighed};
 ghost use Rattle.code_through.specs.Through.{blockThrough};
 ghost use Rattle.deliver_afresh.specs.Working.{Ready, Made};
-ghost use Rattle.deliver.specs.Delivered.{allOfLength, messageIn, afresh, resultFrom, resultOf, left, leftBy};
+ghost use Rattle.deliver.specs.Delivered.{allOfLength, blockRead, afresh, resultFrom, resultOf, left, leftBy};
 ghost use Rattle.deliver.specs.Working.{Whole, Copied};
 
 // Byte p of the block, x: into out, if it is the message's, of `size` bytes.
@@ -204,7 +204,7 @@ fn deliver_in(
         × (length (now sum) ≡ 64) × (224 ≤ length (now room)) × Apart (now points) ⌝ }
     ensures { λ r. ⌜ ((fragment : ℕ → List ℕ) → ((i : ℕ) → i < length (now (points .entry))
         → fragment (getD (now (points .entry)) i 0) ≡ part ((getD (now (points .entry)) i 0 - 1) * s) len (now (area .entry)))
-        → left r (now (out .exit)) ≡ leftBy (afresh b (now (root .entry)) (messageIn b (blockThrough len (now (points .entry)) fragment))) (now (out .entry))) ⌝ }
+        → left r (now (out .exit)) ≡ leftBy (afresh b (now (root .entry)) (blockRead b (blockThrough len (now (points .entry)) fragment))) (now (out .entry))) ⌝ }
 {
     let size = begin(b, area, s, points, len, ds, row, ws, sum, room);
     if 16384 < size {

@@ -7,7 +7,7 @@ use mathlib.Core.Option.{Option, some, none}
 use lib.Dec.{T}
 use Rattle.octets.specs.Bytes.{pick}
 use Rattle.line.specs.Run.{Machine, Input, In, hand, tell, Run, state}
-use Rattle.line.specs.Bytes.{bytes, Left, Calls, untouched, called, next, puts, gives, byteLine}
+use Rattle.line.specs.Bytes.{bytes, AfterCall, Calls, untouched, called, next, puts, gives, byteLine}
 use Rattle.line.proofs.Runs.{along}
 use Rattle.line.proofs.Tests.{none-some}
 use Rattle.line.proofs.Projected.{Meets, Carries}
@@ -38,7 +38,7 @@ showsBy Shows j none s = Unit {0}
 showsBy Shows j (some d) s = Shows j d s
 
 module _ {K : Calls} {M : Machine} {sees : K .Desk → Input (K .Order) (List ℕ) → Option (In M)} {lent : ℕ → K .Desk} {keeps : ℕ → Bool} (A : Lifts K M sees lent keeps) where
-  abbrev Follows : ℕ → M .State → Option (In M) → Left (K .Desk) (K .Result) → Type 0
+  abbrev Follows : ℕ → M .State → Option (In M) → AfterCall (K .Desk) (K .Result) → Type 0
   Follows j s o l = Meets M (A .Shows j) (A .of) (A .res) s o (l .desk) (l .put) (l .given)
 
   follows : (j : ℕ) (d : K .Desk) (s : M .State) → A .Shows j d s → (x : Input (K .Order) (List ℕ)) → Follows j s (sees d x) (called K d x)

@@ -13,7 +13,7 @@ bytes [] = true
 bytes (x ∷ xs) = ltb x 256 && bytes xs
 
 -- what a call leaves: the board's buffers, the record that it puts out for the board with this number, and what it delivers
-pub record Left (Desk Result : Type 0) : Type 0 where
+pub record AfterCall (Desk Result : Type 0) : Type 0 where
   pub desk : Desk
   pub put : ℕ → Option (List ℕ)
   pub given : Option Result
@@ -24,16 +24,16 @@ pub record Calls : Type 1 where
   pub Order : Type 0  -- what its firmware orders, besides handing records over
   pub Result : Type 0
   pub start : ℕ → Desk → Option Desk  -- of the board with this number; none if it is refused
-  pub step : Desk → ℕ → List ℕ → Left Desk Result  -- the record from the board with this number
-  pub obey : Desk → Order → Left Desk Result
+  pub step : Desk → ℕ → List ℕ → AfterCall Desk Result  -- the record from the board with this number
+  pub obey : Desk → Order → AfterCall Desk Result
 
 module _ (K : Calls) where
   -- a call that does nothing
-  abbrev pub untouched : K .Desk → Left (K .Desk) (K .Result)
+  abbrev pub untouched : K .Desk → AfterCall (K .Desk) (K .Result)
   untouched d = record { desk = d; put = λ k. none; given = none }
 
   -- What is no string of bytes cannot be handed over.
-  unfoldable pub called : K .Desk → Input (K .Order) (List ℕ) → Left (K .Desk) (K .Result)
+  unfoldable pub called : K .Desk → Input (K .Order) (List ℕ) → AfterCall (K .Desk) (K .Result)
   called d (hand i r) = pick (bytes r) (K .step d i r) (untouched d)
   called d (tell o) = K .obey d o
 

@@ -21,7 +21,7 @@ use Rattle.board.proofs.Starts.{start-table, start-own, fresh-sound}
 use Rattle.board_step.proofs.Outcomes.{stays}
 use Rattle.line.specs.Boards.{Board}
 use Rattle.line.specs.Run.{Input, hand, tell}
-use Rattle.line.specs.Bytes.{bytes, Left, untouched}
+use Rattle.line.specs.Bytes.{bytes, AfterCall, untouched}
 use Rattle.line.proofs.Projected.{through, Meets, Carries}
 use Rattle.line.proofs.Lifted.{Lifts, seesBy, lifted}
 use Rattle.line.proofs.Tests.{none-some, same-some}
@@ -108,11 +108,11 @@ module _ (b : Table) where
   not-read x i r e = rw e
 
   -- every record and every result is the broadcast's
-  abbrev Follows : ℕ → BoardState B → Option (Input ⊥ (List ℕ)) → Left Desk (Option (List ℕ)) → Type 0
+  abbrev Follows : ℕ → BoardState B → Option (Input ⊥ (List ℕ)) → AfterCall Desk (Option (List ℕ)) → Type 0
   Follows j x o l = Meets (broadcast b) (Holds j) (λ β. some β) (λ d. some d) x o (l .desk) (l .put) (l .given)
 
   module _ (j : ℕ) (d : Desk) (x : BoardState B) (h : Holds j d x) (i : ℕ) (r : List ℕ) where
-    abbrev stepLeft : Left Desk (Option (List ℕ))
+    abbrev stepLeft : AfterCall Desk (Option (List ℕ))
     stepLeft = fragmentBoard b .step d i r
 
     pub agreed : bytes r ≡ true → Agrees b j (d .state) i r (d .out) (d .delivery)

@@ -14,7 +14,7 @@ use Rattle.tree.specs.Tree.{treeOf, tree, half, doubled, depth, rootOf, pathOf,
 use Rattle.tree.proofs.Checks.{root-length, path-length, own-path}
 use Rattle.code.specs.Block.{readable}
 use Rattle.code_through.specs.Through.{marks, attach, slopes, through, blockThrough}
-use Rattle.deliver.specs.Delivered.{allOfLength, messageIn, readFrom, afresh, resultFrom, resultOf}
+use Rattle.deliver.specs.Delivered.{allOfLength, blockRead, readFrom, afresh, resultFrom, resultOf}
 use Rattle.record.specs.Form.{isKind, nodesMost, fragmentOk, partsOk}
 use Rattle.line.specs.Boards.{Board}
 use Rattle.line.proofs.FourBoards.{each-of-four, one, two, three, four}
@@ -71,5 +71,5 @@ lone-correct = record {
 
 -- two bytes are no block: "fewer than 4 bytes .. is refused"
 pub lone-void : (U : ℕ → Bool) (F : ℕ → List ℕ) → AllFour lone U F → resultOf small loneRoot (bitsOf 4 U) F ≡ none
-unfolding bitsOf setOf resultOf resultFrom readFrom messageIn marks allOfLength afresh readable blockThrough through slopes attach pick
+unfolding bitsOf setOf resultOf resultFrom readFrom blockRead marks allOfLength afresh readable blockThrough through slopes attach pick
 lone-void U F h = rw (h .all 1 one, h .all 2 two, h .all 3 three, h .all 4 four, h .frag 1 one, h .frag 2 two) refl

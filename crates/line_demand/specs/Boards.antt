@@ -15,7 +15,7 @@ use Rattle.board_send.specs.Sent.{sendOf}
 use Rattle.board_step.specs.Step.{Outcome, stepOf}
 use Rattle.line.specs.Boards.{Board}
 use Rattle.line.specs.Run.{Machine}
-use Rattle.line.specs.Bytes.{Left, Calls, byteLine}
+use Rattle.line.specs.Bytes.{AfterCall, Calls, byteLine}
 
 -- what a board holds: its state, and the outgoing record buffer and the delivery buffer that its firmware lends now
 pub record Desk : Type 0 where
@@ -57,7 +57,7 @@ abbrev pub givenIn : Outcome → Option (Option (List ℕ))
 givenIn w = deliveredIn (w .answer .delivery) (w .answer .«message_length») (w .delivery)
 
 -- what a step leaves of the three buffers, puts out and delivers
-abbrev pub leftIn : Outcome → Left Desk (Option (List ℕ))
+abbrev pub leftIn : Outcome → AfterCall Desk (Option (List ℕ))
 leftIn w = record { desk = record { state = w .state; out = w .out; delivery = w .delivery }; put = λ k. putIn w; given = givenIn w }
 
 -- "starts once": board j, with the buffers that it is lent

@@ -38,31 +38,31 @@ usableAt = 18
 abbrev pub votesAt : ℕ
 votesAt = 26
 
--- where the kept lengths, the echoes' roots and the votes' roots begin
+-- where the lengths of the kept fragments begin, two bytes a board
 abbrev pub keptLengths : ℕ
 keptLengths = 40
 
--- the echoes' roots, 32 bytes a board
+-- where the echoes' roots begin, 32 bytes a board
 abbrev pub echoRoots : ℕ
 echoRoots = 256
 
--- the votes' roots, 32 bytes a board
+-- where the votes' roots begin, 32 bytes a board
 abbrev pub voteRoots : ℕ
 voteRoots = 2304
 
--- where the length, the echo's root, the vote's root and the fragment kept of board i + 1 lie
+-- where the length of the fragment kept of board i + 1 stands
 abbrev pub lenAt : ℕ → ℕ
 lenAt i = keptLengths + 2 * i
 
--- the root that its echo named
+-- where the root that its echo named stands
 abbrev pub echoAt : ℕ → ℕ
 echoAt i = echoRoots + 32 * i
 
--- the root that its vote named
+-- where the root that its vote named stands
 abbrev pub voteAt : ℕ → ℕ
 voteAt i = voteRoots + 32 * i
 
--- its fragment, in a room of s_max bytes
+-- where its fragment stands, in a room of s_max bytes
 abbrev pub fragmentAt : ℕ → ℕ → ℕ
 fragmentAt max i = fixedBytes + i * max
 

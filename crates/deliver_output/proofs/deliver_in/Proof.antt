@@ -11,7 +11,7 @@ use Rattle.table.proofs.Within.{within}
 use Rattle.code.specs.Block.{blockMessage}
 use Rattle.code_encode.specs.Message.{fragmentFor}
 use Rattle.code_through.specs.Through.{blockThrough}
-use Rattle.deliver.specs.Delivered.{messageIn, afresh}
+use Rattle.deliver.specs.Delivered.{blockRead, afresh}
 use Rattle.deliver.specs.Working.{Whole}
 use Rattle.deliver.proofs.Weighed.{whole}
 use Rattle.deliver.proofs.Delivering.{left-void, rows-hold, fragments-anew, root-differs, root-same}
@@ -48,7 +48,7 @@ returns c =
     λ fragment f.
     whole (a .area .now) (a .s) (a .points .now) (p .11) (λ i. omega (arith, c .before .before .before .before .before .before .before .before .before .before .before .before .before .before .before .before .before .before .before .before .before .before .before .before .before .shared-slice-known2 .given i))
     (λ i. omega (arith, c .before .before .before .before .before .before .before .before .before .before .before .before .before .before .before .before .before .before .before .before .before .before .before .before .before .before .shared-slice-known .given i)) (a .len) fragment f (r .some) in
-    λ fragment f. let g = blockThrough (a .len) (a .points .now) fragment in let o = c .before .before .before .before .before .before .before .before .before .before .before .before .begin .ensures g (w fragment f) in left-void (c .void .result) (a .out .now) (afresh (a .b) (a .root .now) (messageIn (a .b) g)) (c .void .ensures) (o .2 .unread (c .before .if1 .taken) (a .root .now))
+    λ fragment f. let g = blockThrough (a .len) (a .points .now) fragment in let o = c .before .before .before .before .before .before .before .before .before .before .before .before .begin .ensures g (w fragment f) in left-void (c .void .result) (a .out .now) (afresh (a .b) (a .root .now) (blockRead (a .b) g)) (c .void .ensures) (o .2 .unread (c .before .if1 .taken) (a .root .now))
 
 fresh-root-requires : tie.Need-fresh-root-requires
 fresh-root-requires c κs =
@@ -98,7 +98,7 @@ returns-2 c =
     let h : begin .result ≤ 16384 = omega (arith, c .before .before .before .before .before .before .before .before .before .before .before .before .before .before .before .before .if1 .left) in let e = R .size h in
     let F = fragments-anew (a .b) (a .root .now) g k (a .len) (begin .result) (p .0) (p .1) (M .size) e (R .enough h) (R .fits h) (R .count h) (p .3) (M .small) (begin .last .1 .1 .1 .1 .1 .1 .0) (begin .kept .1 .1 .1 .1 .1 .1 .0 ∙ p .7) (R .last h) in
     let root = fresh-root .ensures (o .0) g (fragmentFor (a .b) (blockMessage g)) M (λ i b. F i) in
-    left-void (c .void2 .result) (a .out .now) (afresh (a .b) (a .root .now) (messageIn (a .b) g)) (c .void2 .ensures)
+    left-void (c .void2 .result) (a .out .now) (afresh (a .b) (a .root .now) (blockRead (a .b) g)) (c .void2 .ensures)
     (root-differs (a .b) (a .root .now) g k (a .len) (begin .result) (p .0) (p .1) (M .size) e (R .enough h) (R .fits h) (R .count h) (fresh-root .last .1 .1 .1 .1 .1 .1 .1 .1 .1 .0) root (p .5) (c .before .before .same-at .result) (not-true (c .before .before .same-at .result) (c .before .if2 .taken)) (c .before .before .same-at .ensures))
 
 finish-requires : tie.Need-finish-requires
