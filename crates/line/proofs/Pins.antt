@@ -16,7 +16,7 @@ or-not : {X : Type 0} → X ⊎ ⊥ → X
 or-not (inl x) = x
 or-not (inr n) = absurd n
 
-module _ {M : Machine} {keeps : ℕ → Bool} {S : ℕ} {Sent : ℕ → ℕ → M .Rec → Type 0} {result : M .Result} {r : Run M} where
+module _ {M : Machine} {keeps : ℕ → Bool} {S : ℕ} (Sent : ℕ → ℕ → M .Rec → Type 0) {result : M .Result} {r : Run M} where
   -- "no two rule-keeping boards deliver different results": where two do, the promise is broken
   pub split-breaks : (i j : ℕ) (d e : M .Result) → T (keeps i) → T (keeps j) → Delivered M i d r → Delivered M j e r → (d ≡ e → ⊥)
       → Promise M keeps S Sent result ⊥ r → ⊥

@@ -2,10 +2,10 @@
 use Prim.Native.Nat.{ℕ}
 use mathlib.Core.Bool.{Bool}
 use mathlib.Core.Path.{_≡_}
-use mathlib.Core.Logic.{_⊎_}
 use mathlib.Core.Option.{Option, some, none}
 use lib.Dec.{T}
 use Rattle.line.specs.Run.{Machine, In, hand, Run, fresh, after, state, Delivered, Genuine}
+use Rattle.line.specs.Promise.{PromiseBy}
 
 -- sees: what a larger board of B, in this state, hands to its board of M, if anything
 module _ (B M : Machine) (sees : B .State → In B → Option (In M)) where
@@ -34,7 +34,5 @@ module _ (B M : Machine) (sees : B .State → In B → Option (In M)) where
     DeliveredOf j e r = (d : B .Result) × (res d ≡ some e) × Delivered B j d r
 
     -- demand 3 of one broadcast among those that a board carries
-    pub record PromiseOf (S : ℕ) (result : M .Result) (Unless : Type 0) (r : Run B) : Type 0 where
-      pub agree : (i j : ℕ) (d e : M .Result) → T (keeps i) → T (keeps j) → DeliveredOf i d r → DeliveredOf j e r → (d ≡ e) ⊎ Unless
-      pub valid : (i : ℕ) (d : M .Result) → T (keeps S) → T (keeps i) → DeliveredOf i d r → (d ≡ result) ⊎ Unless
-      pub total : OverOf r → ((i : ℕ) × (d : M .Result) × T (keeps i) × DeliveredOf i d r) ⊎ T (keeps S) → (j : ℕ) → T (keeps j) → (d : M .Result) × DeliveredOf j d r
+    abbrev pub PromiseOf : ℕ → M .Result → Type 0 → Run B → Type 0
+    PromiseOf S result Unless r = PromiseBy keeps S (λ j e. DeliveredOf j e r) (OverOf r) result Unless
