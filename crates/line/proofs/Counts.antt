@@ -1,13 +1,15 @@
 -- Counts of boards: two large sets meet, and a set of more than t boards has a board that keeps the rules.
-use Prim.Native.Nat.{ℕ, zero, suc, _+_, _-_, _≤_, _<_, zero-le}
+use Prim.Native.Nat.{ℕ, zero, suc, _+_, _-_, _*_, _≤_, _<_, min, zero-le}
 use native.Mathlib.Omega.{arith}
 use native.Mathlib.Nat.{le-refl}
 use mathlib.Core.Bool.{Bool, true, false, not, _&&_}
 use mathlib.Core.Path.{_≡_, refl, subst, sym}
 use mathlib.Core.Logic.{_⊎_, inl, inr}
-use lib.Dec.{T, T-not, ltb, leb, lt→ltb, le→leb}
-use native.Mathlib.Decide.{ℕ-discrete}
+use lib.Dec.{T, T-not, ltb, leb, ltb→lt, leb→le, lt→ltb, le→leb}
+use native.Mathlib.Decide.{ℕ-discrete, decLe}
+use borrow.Author.Tests.{lt-ltb, lt-leb}
 use Rattle.octets.specs.Sets.{bit}
+use Rattle.octets.proofs.Picks.{is-true}
 use Rattle.line.specs.Boards.{count, Board, known, Keepers}
 use Rattle.line.proofs.Tests.{both, left, right, truth}
 
@@ -41,6 +43,9 @@ up b = record { low = b .low; high = omega arith }
 pub is-known : {n i : ℕ} → Board n i → T (known n i)
 is-known {n} {i} b = both (ltb 0 i) (leb i n) (lt→ltb 0 i (b .low)) (le→leb i n (b .high))
 
+pub known-is : {n i : ℕ} → T (known n i) → Board n i
+known-is {n} {i} h = record { low = ltb→lt 0 i (left (ltb 0 i) (leb i n) h); high = leb→le i n (right (ltb 0 i) (leb i n) h) }
+
 -- a larger set has a larger count
 pub count-le : (p q : ℕ → Bool) (n : ℕ) → ((i : ℕ) → Board n i → T (p i) → T (q i)) → count p n ≤ count q n
 unfolding count
@@ -62,6 +67,20 @@ pub count-none : (n : ℕ) → count (λ i. false) n ≡ 0
 unfolding count
 count-none zero = refl
 count-none (suc n) = omega (arith, count-none n)
+
+-- which boards are 1 to m, and how many of them are 1 to n
+pub known-beyond : (m i : ℕ) → m < i → known m i ≡ false
+known-beyond m i h = rw (lt-ltb 0 i (omega arith), lt-leb i m h)
+
+pub count-known : (m n : ℕ) → count (known m) n ≡ min m n
+unfolding count
+count-known m zero = omega arith
+count-known m (suc n) = elim (decLe (suc n) m) [
+  | yes h ↦ (
+      let in-it : known m (suc n) ≡ true = is-true (known m (suc n)) (is-known (record { low = omega arith; high = h })) in
+      rw in-it (omega (arith, count-known m n)))
+  | no h ↦ rw (known-beyond m (suc n) (omega arith)) (omega (arith, count-known m n))
+]
 
 -- a set that is not empty has a member
 pub count-find : (p : ℕ → Bool) (n : ℕ) → 0 < count p n → (i : ℕ) × Board n i × T (p i)
@@ -97,6 +116,14 @@ each-or {C} p P (suc n) f = go (each-or p P n (λ i b t. f i (up b) t)) (truth (
     go (inl g) (inl t) = elim (f (suc n) top t) [ inl h ↦ inl (all g (λ u. h)) | inr c ↦ inr c ]
 
 -- ---- the boards that keep the rules
+
+-- the boards 1 to h may be those that do
+pub first-keep : (n t h : ℕ) → 3 * t < n → n - t ≤ h → h ≤ n → Keepers n t (known h)
+first-keep n t h third few most = record {
+  third = third;
+  known = λ i k. let b = known-is k in record { low = b .low; high = omega arith };
+  few = omega (arith, count-not (known h) n, count-known h n);
+}
 
 module _ {n t : ℕ} {keeps : ℕ → Bool} (K : Keepers n t keeps) where
   pub many : n ≤ t + count keeps n

@@ -15,6 +15,6 @@ pub mod Notices
 pub mod Projected
 pub mod Lifted
 pub mod Rounds
-pub mod FourBoards
+pub mod Scripts
 pub mod Examples
 pub mod Pins

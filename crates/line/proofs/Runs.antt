@@ -6,7 +6,7 @@ use mathlib.Core.Logic.{_⊎_, inl, inr}
 use mathlib.Core.Option.{some}
 use lib.Dec.{T, eqb, eqb→eq, eqb-refl}
 use Rattle.octets.specs.Bytes.{pick}
-use Rattle.line.specs.Run.{Machine, In, Run, fresh, after, state, Put}
+use Rattle.line.specs.Run.{Machine, In, hand, Run, fresh, after, state, Took, Put, Genuine, Fair}
 use Rattle.line.proofs.Tests.{pick-true}
 
 module _ (M : Machine) where
@@ -48,3 +48,17 @@ module _ (M : Machine) where
 
   pub no-put : {i j : ℕ} {ρ : M .Rec} → Put M i j ρ fresh → ⊥
   no-put p = elim p [ ]
+
+  -- what was handed over: in the last step, or before it
+  pub last-took : {j k : ℕ} {x y : In M} {r : Run M} → Took M j x (after r k y) → Took M j x r ⊎ ((k ≡ j) × (y ≡ x))
+  last-took Took.now = inr (refl, refl)
+  last-took (Took.then t) = inl t
+
+  pub no-took : {j : ℕ} {x : In M} → Took M j x fresh → ⊥
+  no-took t = elim t [ ]
+
+  -- in a fair run, what was handed over between rule-keeping boards was genuine
+  pub took-genuine : {keeps : ℕ → Bool} {Sent : ℕ → ℕ → M .Rec → Type 0} {r : Run M} {i j : ℕ} {ρ : M .Rec} → Fair M keeps Sent r
+      → Took M j (hand i ρ) r → T (keeps i) → T (keeps j) → Genuine M Sent r i j ρ
+  took-genuine {i = i} {ρ = ρ} (Fair.went f g) Took.now ki kj = elim (g i ρ refl ki kj) [ inl p ↦ inl (Put.then p) | inr s ↦ inr s ]
+  took-genuine (Fair.went f g) (Took.then t) ki kj = elim (took-genuine f t ki kj) [ inl p ↦ inl (Put.then p) | inr s ↦ inr s ]

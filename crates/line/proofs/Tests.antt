@@ -57,9 +57,6 @@ off e = absurd (omega arith)
 pub none-some : {A D : Type 0} (a : A) → none ≡ some a → D
 none-some a e = off (cc)
 
-pub same-some : {A : Type 0} {a b : A} → some a ≡ some b → a ≡ b
-same-some e = cc
-
 -- something that a test picks
 pub chosen : {A : Type 0} (c : Bool) (d e : A) → pick c (some d) none ≡ some e → T c × (d ≡ e)
 unfolding pick

@@ -4,7 +4,7 @@ use native.Mathlib.Omega.{arith}
 use mathlib.Core.Bool.{Bool, true, false}
 use mathlib.Core.Path.{_≡_, refl, subst, sym, _∙_, ap}
 use mathlib.Core.List.{List}
-use mathlib.Core.Option.{Option, some, none}
+use mathlib.Core.Option.{Option, some, none, Option·some-injective}
 use borrow.Author.Tests.{le-ltb, le-leb, leb-true}
 use lib.ListN.{length}
 use lib.Dec.{T, leb}
@@ -24,7 +24,7 @@ use Rattle.line.specs.Run.{Input, hand, tell}
 use Rattle.line.specs.Bytes.{bytes, AfterCall, untouched}
 use Rattle.line.proofs.Projected.{through, Meets, Carries}
 use Rattle.line.proofs.Lifted.{Lifts, seesBy, lifted}
-use Rattle.line.proofs.Tests.{none-some, same-some}
+use Rattle.line.proofs.Tests.{none-some}
 use Rattle.line_fragments.specs.Step.{Line, BoardState, refuse, act, afterAct}
 use Rattle.line_fragments.specs.Step as Fragments
 use Rattle.line_code.specs.Parts.{codeOf, lineOf, readRecord}
@@ -88,7 +88,7 @@ module _ (b : Table) where
   starts j d roomy lim e q = go (isBoard b j) refl
     where
       go : (c : Bool) → isBoard b j ≡ c → Holds j e (broadcast b .start j)
-      go true h = subst (λ x. Holds j x (broadcast b .start j)) (same-some (sym (begun-is j d roomy lim true h) ∙ q)) (started j d roomy lim h)
+      go true h = subst (λ x. Holds j x (broadcast b .start j)) (Option·some-injective _ _ (sym (begun-is j d roomy lim true h) ∙ q)) (started j d roomy lim h)
       go false h = none-some e (sym (begun-is j d roomy lim false h) ∙ q)
 
   pub board-is : (j : ℕ) → Board (b .n) j → isBoard b j ≡ true

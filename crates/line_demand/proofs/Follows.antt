@@ -1,105 +1,132 @@
--- n 4, t 1, S 1, L 16: the run of line/proofs/FourBoards by the boards that C calls, from the same run of the broadcast.
+-- A run of the broadcast, taken by the boards that C calls: the same records, handed to the same boards.
 use Prim.Native.Nat.{ℕ}
 use mathlib.Core.Bool.{Bool, true}
-use mathlib.Core.Path.{_≡_, refl, subst, sym}
+use mathlib.Core.Path.{_≡_, refl, subst, sym, _∙_, ap}
 use mathlib.Core.Logic.{inl, inr}
-use mathlib.Core.List.{List, []}
-use mathlib.Core.Option.{Option}
+use mathlib.Core.List.{List}
+use mathlib.Core.Option.{Option, some, Option·some-injective}
 use lib.Dec.{T}
-use Rattle.line.specs.Boards.{Board}
-use Rattle.line.specs.Run.{Machine, hand, Run, Took, Put, Delivered, Fair, Over}
-use Rattle.line.specs.Project.{project}
-use Rattle.line.proofs.Projected.{Carries, put-on, put-back, delivered-back}
-use Rattle.line.proofs.Lifted.{lifted}
-use Rattle.line.proofs.FourBoards.{Passes, sent, echoed, voted, voted-fair, took-mail, took-echo, took-vote, sent-project, echoed-project, voted-project}
-use Rattle.line_fragments.specs.Laws.{LineLaws}
-use Rattle.line_fragments.proofs.Spreads.{Correct, AllFour, mailed, echoing, voting}
-use Rattle.line_fragments.proofs.Delivers.{some-is, echoes, votes, put-only, delivers}
-use Rattle.line_code.specs.Parts.{codeOf, lineOf}
-use Rattle.line_code.proofs.Lines.{line-laws}
+use Rattle.table.specs.Table.{limits}
+use Rattle.table.specs.declared.Table.{Table}
+use Rattle.state.specs.State.{marksOf}
+use Rattle.line.specs.Run.{Machine, In, hand, tell, Run, fresh, after, state, Took, Put, Delivered, Genuine, Fair, Over}
+use Rattle.line.specs.Project.{extend, project}
+use Rattle.line.proofs.Projected.{Carries, shows, put-on, put-back, delivered-back}
+use Rattle.line.proofs.Lifted.{showsBy, lifted}
+use Rattle.line.proofs.Runs.{last-took, no-took, took-genuine}
+use Rattle.line.proofs.Rounds.{Later, Within}
 use Rattle.line_demand.specs.Boards.{Desk, Roomy, boards}
+use Rattle.line_demand.proofs.Shown.{shownOf}
 use Rattle.line_demand.proofs.Started.{broadcast}
-use Rattle.line_demand.proofs.Carry.{sees, lifts, carries}
+use Rattle.line_demand.proofs.Carry.{sees, Holds, lifts, carries}
 use Rattle.line_demand.proofs.Reached.{passed}
-use Rattle.line_demand.proofs.Void.{small, small-limits}
 
--- the run, with a send, an echo and a vote of the root v by its fragments and paths
-abbrev pub runOf : (lent : ℕ → Desk) → List ℕ → (ℕ → List ℕ) → (ℕ → List ℕ) → Run (boards small lent)
-runOf lent v f π = voted (boards small lent) 1 (mailed (lineOf small) v f π) (echoing (lineOf small) v f π) (voting (lineOf small) v f π)
+unfoldable pub copied : (b : Table) (lent : ℕ → Desk) → Run (broadcast b) → Run (boards b lent)
+copied b lent fresh = fresh
+copied b lent (after q j (hand i ρ)) = after (copied b lent q) j (hand i ρ)
+copied b lent (after q j (tell e)) = absurd e
 
-module _ (lent : ℕ → Desk) (roomy : (j : ℕ) → Roomy small (lent j)) {v : List ℕ} {f π : ℕ → List ℕ} (G : Correct (lineOf small) v f π) where
+module _ (b : Table) (limited : limits b ≡ true) (lent : ℕ → Desk) (roomy : (j : ℕ) → Roomy b (lent j)) where
   abbrev B : Machine
-  B = boards small lent
+  B = boards b lent
 
   abbrev M : Machine
-  M = broadcast small
+  M = broadcast b
 
   -- every board is looked at, whether it keeps the rules or not
   abbrev everyone : ℕ → Bool
   everyone j = true
 
   abbrev K : Carries B M sees everyone
-  K = carries small small-limits lent everyone (λ j kj. roomy j)
+  K = carries b limited lent everyone (λ j kj. roomy j)
 
-  abbrev A : LineLaws (lineOf small)
-  A = line-laws small small-limits
+  -- seen as a run of the broadcast, it is that run
+  is-copied : (q : Run M) → Within M (b .n) q → project B M sees (copied b lent q) ≡ q
+  unfolding copied project Within
+  is-copied fresh w = refl
+  is-copied (after q j (hand i ρ)) (bd, w) =
+      ap (λ o. extend B M sees (project B M sees (copied b lent q)) j o) (passed b limited lent everyone (λ l kl. roomy l) j tt bd i ρ (copied b lent q))
+      ∙ ap (λ p. after p j (hand i ρ)) (is-copied q w)
+  is-copied (after q j (tell e)) w = absurd e
 
-  abbrev m : ℕ → List ℕ
-  m = mailed (lineOf small) v f π
+  module _ (q : Run M) (w : Within M (b .n) q) where
+    put-in : {i j : ℕ} {ρ : List ℕ} → Put M i j ρ q → Put B i j ρ (copied b lent q)
+    unfolding carries lifted lifts
+    put-in {i} {j} {ρ} p =
+        let (β, x, y) = put-back K (copied b lent q) i j tt ρ (subst (Put M i j ρ) (sym (is-copied q w)) p) in
+        subst (λ a. Put B i j a (copied b lent q)) (Option·some-injective _ _ y) x
 
-  abbrev e : ℕ → List ℕ
-  e = echoing (lineOf small) v f π
+    put-out : {i j : ℕ} {ρ : List ℕ} → Put B i j ρ (copied b lent q) → Put M i j ρ q
+    unfolding carries lifted lifts
+    put-out {i} {j} {ρ} p = subst (Put M i j ρ) (is-copied q w) (put-on K tt refl p)
 
-  abbrev w : List ℕ
-  w = voting (lineOf small) v f π
+    pub delivered-copied : (j : ℕ) (d : Option (List ℕ)) → Delivered M j d q → Delivered B j d (copied b lent q)
+    unfolding carries lifted lifts
+    delivered-copied j d p =
+        let (c, y, x) = delivered-back K (copied b lent q) j tt d (subst (Delivered M j d) (sym (is-copied q w)) p) in
+        subst (λ a. Delivered B j a (copied b lent q)) (Option·some-injective _ _ y) x
 
-  abbrev run : Run B
-  run = runOf lent v f π
+    -- a board's bytes hold its state in that run
+    pub copied-shown : (j : ℕ) (d : Desk) → state B (copied b lent q) j ≡ some d → shownOf b j (marksOf (d .state)) (d .state) ≡ state M q j
+    unfolding carries lifted lifts
+    copied-shown j d here =
+        let held = subst (λ o. showsBy (Holds b) j o (state M (project B M sees (copied b lent q)) j)) here (shows K (copied b lent q) j tt) in
+        held .shows ∙ ap (λ p. state M p j) (is-copied q w)
 
-  -- ---- it is that run of the broadcast
+  pub copied-later : {p q : Run M} → Later M p q → Later B (copied b lent p) (copied b lent q)
+  unfolding copied
+  copied-later Later.same = Later.same
+  copied-later {p} (Later.more {q} {k} {x} l) = go x (copied-later l)
+    where
+      go : (x : In M) → Later B (copied b lent p) (copied b lent q) → Later B (copied b lent p) (copied b lent (after q k x))
+      go (hand i ρ) m = Later.more m
+      go (tell e) m = absurd e
 
-  passes : (ρ : ℕ → List ℕ) → Passes B M sees ρ ρ
-  passes ρ q i k j b = passed small small-limits lent everyone (λ l kl. roomy l) j tt b i (ρ k) q
+  pub took-copied : {j i : ℕ} {ρ : List ℕ} {q : Run M} → Took M j (hand i ρ) q → Took B j (hand i ρ) (copied b lent q)
+  unfolding copied
+  took-copied Took.now = Took.now
+  took-copied {j} {i} {ρ} (Took.then {r} {k} {y} p) = go y (took-copied p)
+    where
+      go : (y : In M) → Took B j (hand i ρ) (copied b lent r) → Took B j (hand i ρ) (copied b lent (after r k y))
+      go (hand l x) t = Took.then t
+      go (tell e) t = absurd e
 
-  is-sent : project B M sees (sent B 1 m e w) ≡ sent M 1 m e w
-  is-sent = sent-project B M sees 1 m e w m e w (passes m) (passes e) (passes (λ i. w))
+  pub took-only : (q : Run M) (j i : ℕ) (ρ : List ℕ) → Took B j (hand i ρ) (copied b lent q) → Took M j (hand i ρ) q
+  unfolding copied
+  took-only fresh j i ρ t = absurd (no-took B t)
+  took-only (after q k (hand a x)) j i ρ t = elim (last-took B t) [
+    | inl t ↦ Took.then (took-only q j i ρ t)
+    | inr (e, p) ↦ (
+        let ei : a ≡ i = cc in
+        let ex : x ≡ ρ = cc in
+        subst (λ l. Took M j (hand i ρ) (after q l (hand a x))) (sym e)
+        (subst (λ y. Took M j (hand i ρ) (after q j y)) (λ z. hand (sym ei z) (sym ex z)) Took.now))
+  ]
+  took-only (after q k (tell e)) j i ρ t = absurd e
 
-  is-echoed : project B M sees (echoed B 1 m e w) ≡ echoed M 1 m e w
-  is-echoed = echoed-project B M sees 1 m e w m e w (passes m) (passes e) (passes (λ i. w))
+  last-fair : (keeps : ℕ → Bool) (Sent : ℕ → ℕ → List ℕ → Type 0) {q : Run M} {j : ℕ} {x : In M} → Fair M keeps Sent (after q j x)
+      → Fair M keeps Sent q × ((i : ℕ) (ρ : List ℕ) → x ≡ hand i ρ → T (keeps i) → T (keeps j) → Genuine M Sent q i j ρ)
+  last-fair keeps Sent (Fair.went f g) = (f, g)
 
-  is-voted : project B M sees run ≡ voted M 1 m e w
-  is-voted = voted-project B M sees 1 m e w m e w (passes m) (passes e) (passes (λ i. w))
+  -- so it is fair and every record is handed over, if that is so of the broadcast's run
+  module _ (keeps : ℕ → Bool) (Sent : ℕ → ℕ → List ℕ → Type 0) where
+    pub fair-copied : (q : Run M) → Within M (b .n) q → Fair M keeps Sent q → Fair B keeps Sent (copied b lent q)
+    unfolding copied Within
+    fair-copied fresh w f = Fair.begun
+    fair-copied (after q j (hand i ρ)) (bd, w) f = Fair.went (fair-copied q w (last-fair keeps Sent f .0)) here
+      where
+        here : (k : ℕ) (x : List ℕ) → _≡_ {A = In B} (hand i ρ) (hand k x) → T (keeps k) → T (keeps j) → Genuine B Sent (copied b lent q) k j x
+        here k x e kk kj =
+            let ek : i ≡ k = cc in
+            let ex : ρ ≡ x = cc in
+            elim (last-fair keeps Sent f .1 k x (λ z. hand (ek z) (ex z)) kk kj) [ inl p ↦ inl (put-in q w p) | inr s ↦ inr s ]
+    fair-copied (after q j (tell e)) w f = absurd e
 
-  put-in : {i j : ℕ} {ρ : List ℕ} (r : Run B) (q : Run M) → project B M sees r ≡ q → Put M i j ρ q → Put B i j ρ r
-  unfolding carries lifted lifts
-  put-in {i} {j} {ρ} r q h p = let (β, x, y) = put-back K r i j tt ρ (subst (Put M i j ρ) (sym h) p) in subst (λ a. Put B i j a r) (some-is y) x
-
-  only : (i j : ℕ) (ρ : List ℕ) → Put B i j ρ run → Put M i j ρ (voted M 1 m e w)
-  unfolding carries lifted lifts
-  only i j ρ p = subst (Put M i j ρ) is-voted (put-on K tt refl p)
-
-  -- ---- so it is fair, every record is handed over, and each board delivers
-
-  -- the sender's records are those of Sent, or it breaks the rules
-  module _ (keeps : ℕ → Bool) (kept : (i : ℕ) → T (keeps i) → Board 4 i) (Sent : ℕ → ℕ → List ℕ → Type 0) where
-    pub run-fair : ((j : ℕ) → Board 4 j → T (keeps 1) → Sent 1 j (m j)) → Fair B keeps Sent run
-    run-fair mails = voted-fair B 1 m e w
-        (λ i j c b. put-in (sent B 1 m e w) (sent M 1 m e w) is-sent (echoes A (λ i. []) (λ i. []) G i j c b))
-        (λ i j c b. put-in (echoed B 1 m e w) (echoed M 1 m e w) is-echoed (votes A (λ i. []) (λ i. []) G i j c b)) mails
-
-    pub run-over : ((i j : ℕ) (ρ : List ℕ) → T (keeps i) → Sent i j ρ → (i ≡ 1) × (ρ ≡ m j)) → Over B keeps Sent run
+    pub over-copied : (q : Run M) → Within M (b .n) q → Over M keeps Sent q → Over B keeps Sent (copied b lent q)
     unfolding Over
-    run-over mails i j ρ ki kj (inl p) = elim (put-only A (λ i. []) (λ i. []) G i j ρ (kept i ki) (only i j ρ p)) [
-      | inl q ↦ subst (λ x. Took B j (hand i x) run) (sym q) (took-echo B 1 m e w j (kept j kj) i (kept i ki))
-      | inr q ↦ subst (λ x. Took B j (hand i x) run) (sym q) (took-vote B 1 m e w j (kept j kj) i (kept i ki))
-    ]
-    run-over mails i j ρ ki kj (inr s) =
-        let (ei, q) = mails i j ρ ki s in
-        subst (λ a. Took B j (hand a ρ) run) (sym ei) (subst (λ x. Took B j (hand 1 x) run) (sym q) (took-mail B 1 m e w j (kept j kj)))
+    over-copied q w o i j ρ ki kj g = took-copied (o i j ρ ki kj (elim g [ inl p ↦ inl (put-out q w p) | inr s ↦ inr s ]))
 
-  pub run-delivers : (d : Option (List ℕ)) → ((U : ℕ → Bool) (F : ℕ → List ℕ) → AllFour f U F → codeOf small .result v U F ≡ d) → (j : ℕ) → Board 4 j
-      → Delivered B j d run
-  unfolding carries lifted lifts
-  run-delivers d is j b =
-      let (c, y, x) = delivered-back K run j tt d (subst (Delivered M j d) (sym is-voted) (delivers A (λ i. []) (λ i. []) G d is j b)) in
-      subst (λ a. Delivered B j a run) (some-is y) x
+    -- and where it is fair, what was handed over between rule-keeping boards was genuine in the broadcast's run
+    pub genuine-copied : (q : Run M) → Within M (b .n) q → Fair B keeps Sent (copied b lent q) → (i j : ℕ) (ρ : List ℕ) → Took M j (hand i ρ) q
+        → T (keeps i) → T (keeps j) → Genuine M Sent q i j ρ
+    genuine-copied q w f i j ρ t ki kj = elim (took-genuine B f (took-copied t) ki kj) [ inl p ↦ inl (put-out q w p) | inr s ↦ inr s ]

@@ -27,7 +27,7 @@ module _ (b : Table) (limited : limits b ≡ true) (lent : ℕ → Desk) (keeps 
   abbrev BB : Machine
   BB = boards b lent
 
-  started : (j : ℕ) → T (keeps j) → Board (b .n) j → (r : Run BB) → (d : Desk) × (state BB r j ≡ some d)
+  pub started : (j : ℕ) → T (keeps j) → Board (b .n) j → (r : Run BB) → (d : Desk) × (state BB r j ≡ some d)
   started j kj bd = always (fragmentBoard b) lent j (begun-some b j (lent j) (roomy j kj) limited bd)
 
   -- so it takes what it is handed

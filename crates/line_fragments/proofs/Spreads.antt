@@ -1,268 +1,420 @@
--- n 4, t 1: what a board does in the run of line/proofs/FourBoards, whatever hash, tree and code are. It is handed a send of the root v, and
--- then an echo and a vote of each board, all of them correct.
-use Prim.Native.Nat.{ℕ}
-use mathlib.Core.Bool.{Bool, true, false, _&&_}
+-- What a board of n does in the run of line/proofs/Scripts, whatever hash, tree and code are. It is handed a send of the root v, then records that
+-- it refuses, and then an echo and a vote of each of the boards 1 to h, all of them correct.
+use Prim.Native.Nat.{ℕ, zero, suc, _-_, _≤_, _<_, min}
+use native.Mathlib.Omega.{arith}
+use native.Mathlib.Decide.{ℕ-discrete, decLt}
+use mathlib.Core.Bool.{Bool, true, false, not, _&&_, _||_}
 use mathlib.Core.Path.{_≡_, refl, subst, sym, _∙_, ap}
+use mathlib.Core.Logic.{_⊎_, inl, inr}
 use mathlib.Core.Option.{Option, some, none}
-use lib.Dec.{T, eqb, eqb-refl}
+use borrow.Author.Tests.{leb-true, leb-false, le-leb, lt-leb, ne-eqb}
+use lib.Dec.{T, leb, ltb, eqb, eqb-refl}
 use Rattle.octets.specs.Bytes.{pick}
-use Rattle.line.specs.Boards.{count, Board}
+use Rattle.octets.proofs.Picks.{is-true, or-false}
+use Rattle.line.specs.Boards.{count, Board, known, someBoards}
 use Rattle.line.specs.Run.{Machine, hand}
-use Rattle.line.specs.Core.{Word, setAt, setWord, dueBy}
-use Rattle.line.proofs.FourBoards.{each-of-four, one, two, three, four, at1, at2, at3, at4}
-use Rattle.octets.proofs.Picks.{is-true}
+use Rattle.line.specs.Core.{Word, setAt, setWord, Core, keep, quorum, dueBy, due, withVote}
 use Rattle.line.proofs.Tests.{pick-true}
+use Rattle.line.proofs.Counts.{top, is-known, known-beyond, count-known}
+use Rattle.line.proofs.Scripts.{Strays, Script, Plays}
 use Rattle.line_fragments.specs.Code.{Code}
-use Rattle.line_fragments.specs.Step.{send, echo, vote, Line, enoughBy, BoardState, take, actOn, act, afterAct, putsOut, give, board}
+use Rattle.line_fragments.specs.Step.{send, echo, vote, Line, fewestBoards, enoughBy, BoardState, refuse, take, actOn, act, keepAct, opens, ends}
+use Rattle.line_fragments.specs.Step.{settle, resultAt, afterAct, voteOut, putsOut, give, board}
 use Rattle.line_fragments.specs.Laws.{LineLaws}
 use Rattle.line_fragments.proofs.Steps.{took}
 
+-- ---- what is kept of the boards 1 to i
+
+-- f for the boards 1 to i, g for the others
+abbrev pub upTo : {A : Type 0} → ℕ → (ℕ → A) → (ℕ → A) → ℕ → A
+upTo i f g k = pick (known i k) (f k) (g k)
+
+-- just these boards
+abbrev pub firstOf : ℕ → ℕ → Bool
+firstOf i = upTo i (λ k. true) (λ k. false)
+
+-- one board more
+known-next : (i k : ℕ) → (k ≡ suc i → ⊥) → known (suc i) k ≡ known i k
+known-next i k ne = ap (λ (c : Bool). ltb 0 k && c) (go (leb k i) (leb-true k i) (leb-false k i))
+  where
+    go : (c : Bool) → (c ≡ true → k ≤ i) → (c ≡ false → i < k) → leb k (suc i) ≡ c
+    go true h l = let low = h refl in le-leb k (suc i) (omega arith)
+    go false h l = let high = l refl in lt-leb k (suc i) (omega arith)
+
+upTo-next : {A : Type 0} (i : ℕ) (f g : ℕ → A) (k : ℕ) → setAt (upTo i f g) (suc i) (f (suc i)) k ≡ upTo (suc i) f g k
+unfolding pick
+upTo-next i f g k = elim (ℕ-discrete k (suc i)) [
+  | yes e ↦ subst (λ a. setAt (upTo i f g) (suc i) (f (suc i)) a ≡ upTo (suc i) f g a) (sym e)
+      (pick-true (eqb (suc i) (suc i)) (f (suc i)) (upTo i f g (suc i)) (eqb-refl (suc i))
+      ∙ sym (pick-true (known (suc i) (suc i)) (f (suc i)) (g (suc i)) (is-known (top {n = i}))))
+  | no ne ↦ rw (ne-eqb k (suc i) ne, known-next i k ne)
+]
+
+upTo-none : {A : Type 0} (f g : ℕ → A) (k : ℕ) → g k ≡ upTo 0 f g k
+unfolding pick
+upTo-none f g zero = refl
+upTo-none f g (suc k) = rw (known-beyond 0 (suc k) (omega arith))
+
+-- those of them that name v
+module _ {Val : Type 0} (same : Val → Val → Bool) (v : Val) (r : ℕ → Val) (same-v : same v v ≡ true) where
+  naming : (i k : ℕ) → (firstOf i k && same (upTo i (λ k. v) r k) v) ≡ known i k
+  unfolding pick
+  naming i k = go (known i k)
+    where
+      go : (c : Bool) → (pick c true false && same (pick c v (r k)) v) ≡ c
+      go true = same-v
+      go false = refl
+
+  naming-count : (i n : ℕ) → i ≤ n → count (λ k. firstOf i k && same (upTo i (λ k. v) r k) v) n ≡ i
+  naming-count i n h =
+      let least : min i n ≡ i = omega arith in
+      ap (λ (p : ℕ → Bool). count p n) (λ x k. naming i k x) ∙ count-known i n ∙ least
+
+-- ---- correct fragments, and the script
+
 -- fragments and paths that are correct under the root v
-pub record Correct {C : Code} (B : Line 4 1 C) (v : C .Root) (f : ℕ → C .Frag) (π : ℕ → C .Path) : Type 0 where
-  pub check : (i : ℕ) → Board 4 i → C .check v i (f i) (π i) ≡ true
-  pub short : (i : ℕ) → Board 4 i → B .short (f i) ≡ true
-  pub read : (i : ℕ) → Board 4 i → B .read (B .write (send v (π i) (f i))) ≡ some (send v (π i) (f i))
+pub record Correct {n t : ℕ} {C : Code} (B : Line n t C) (v : C .Root) (f : ℕ → C .Frag) (π : ℕ → C .Path) : Type 0 where
+  pub check : (i : ℕ) → Board n i → C .check v i (f i) (π i) ≡ true
+  pub short : (i : ℕ) → Board n i → B .short (f i) ≡ true
+  pub read : (i : ℕ) → Board n i → B .read (B .write (send v (π i) (f i))) ≡ some (send v (π i) (f i))
 
--- the four boards are all in U, and F has their fragments
-pub record AllFour {Frag : Type 0} (f : ℕ → Frag) (U : ℕ → Bool) (F : ℕ → Frag) : Type 0 where
-  pub all : (i : ℕ) → Board 4 i → U i ≡ true
-  pub frag : (i : ℕ) → Board 4 i → F i ≡ f i
+-- the boards 1 to h spread them, after the records of strays
+abbrev pub scriptOf : {n t : ℕ} {C : Code} (B : Line n t C) → C .Root → (ℕ → C .Frag) → (ℕ → C .Path) → Strays (B .Bytes) → ℕ → Script (B .Bytes)
+scriptOf B v f π strays h = record {
+  S = B .S;
+  mail = λ j. B .write (send v (π j) (f j));
+  strays = strays;
+  speakers = h;
+  echo = λ i. B .write (echo v (π i) (f i));
+  vote = B .write (vote v);
+}
 
--- the boards' records
-module _ {C : Code} (B : Line 4 1 C) (v : C .Root) (f : ℕ → C .Frag) (π : ℕ → C .Path) where
-  abbrev pub mailed : ℕ → B .Bytes
-  mailed j = B .write (send v (π j) (f j))
+pub and-false : (c : Bool) → (c && false) ≡ false
+and-false true = refl
+and-false false = refl
 
-  abbrev pub echoing : ℕ → B .Bytes
-  echoing i = B .write (echo v (π i) (f i))
+and-twice : (c : Bool) → (c && (c && true)) ≡ c
+and-twice true = refl
+and-twice false = refl
 
-  abbrev pub voting : B .Bytes
-  voting = B .write (vote v)
+-- n - t is not 0
+pub none-yet : {n t : ℕ} {C : Code} {B : Line n t C} → LineLaws B → leb (n - t) 0 ≡ false
+none-yet {n} {t} A = lt-leb (n - t) 0 (omega (arith, A .third))
 
-module _ {C : Code} {B : Line 4 1 C} (A : LineLaws B) (r₀ : ℕ → C .Root) (f₀ : ℕ → C .Frag) {v : C .Root} {f : ℕ → C .Frag} {π : ℕ → C .Path}
+module _ {n t : ℕ} {C : Code} {B : Line n t C} (A : LineLaws B) (r₀ : ℕ → C .Root) (f₀ : ℕ → C .Frag) {v : C .Root} {f : ℕ → C .Frag} {π : ℕ → C .Path}
     (G : Correct B v f π) where
   abbrev M : Machine
   M = board B r₀ f₀
 
   -- ---- the states of board j
 
-  -- after the echo of board i, which is usable; after its vote. voted, ended: whether that has brought the vote, the delivery
-  abbrev withEcho : BoardState B → ℕ → Bool → BoardState B
-  withEcho s i voted = record {
-    own = s .own;
-    core = record {
-      spoke = setWord (s .core .spoke) Word.vote voted;
-      set = setWord (s .core .set) Word.echo (setAt (s .core .set Word.echo) i true);
-      val = setWord (s .core .val) Word.echo (setAt (s .core .val Word.echo) i v);
-    };
-    usable = setAt (s .usable) i true;
-    frag = setAt (s .frag) i (f i);
-    out = false;
-    done = false;
-  }
+  -- of echoes, of votes
+  abbrev each : {D : Type 0} → D → D → Word → D
+  each a b Word.echo = a
+  each a b Word.vote = b
 
-  abbrev withVote : BoardState B → ℕ → Bool → BoardState B
-  withVote s i ended = record {
-    own = s .own;
-    core = record {
-      spoke = setWord (s .core .spoke) Word.vote true;
-      set = setWord (s .core .set) Word.vote (setAt (s .core .set Word.vote) i true);
-      val = setWord (s .core .val) Word.vote (setAt (s .core .val Word.vote) i v);
-    };
-    usable = s .usable;
-    frag = s .frag;
-    out = ended;
-    done = ended;
-  }
+  -- the echoes of the boards 1 to a and the votes of the boards 1 to b are kept; said: whether the board itself has voted
+  abbrev cores : ℕ → ℕ → Bool → Core (C .Root)
+  cores a b said = record { spoke = each true said; set = each (firstOf a) (firstOf b); val = each (upTo a (λ k. v) r₀) (upTo b (λ k. v) r₀) }
 
-  abbrev s₁ : ℕ → BoardState B
-  s₁ j = afterAct B (M .start j) (take (B .S) (send v (π j) (f j)))
+  abbrev states : ℕ → ℕ → ℕ → Bool → Bool → Bool → BoardState B
+  states j a b said out done = record { own = j; core = cores a b said; usable = firstOf a; frag = upTo a f f₀; out = out; done = done }
 
-  -- the third echo brings the vote
-  abbrev s₂ : ℕ → BoardState B
-  s₂ j = withEcho (s₁ j) 1 false
-
-  abbrev s₃ : ℕ → BoardState B
-  s₃ j = withEcho (s₂ j) 2 false
-
-  abbrev s₄ : ℕ → BoardState B
-  s₄ j = withEcho (s₃ j) 3 true
-
-  abbrev s₅ : ℕ → BoardState B
-  s₅ j = withEcho (s₄ j) 4 true
-
-  -- the third vote brings the delivery
-  abbrev s₆ : ℕ → BoardState B
-  s₆ j = withVote (s₅ j) 1 false
-
-  abbrev s₇ : ℕ → BoardState B
-  s₇ j = withVote (s₆ j) 2 false
-
-  abbrev s₈ : ℕ → BoardState B
-  s₈ j = withVote (s₇ j) 3 true
+  -- board j after a echoes and b votes: n - t echoes brought its vote, n - t votes its delivery
+  abbrev pub stateAt : ℕ → ℕ → ℕ → BoardState B
+  stateAt j a b = states j a b (leb (n - t) a) (leb (n - t) b) (leb (n - t) b)
 
   same-v : B .same v v ≡ true
   same-v = is-true (B .same v v) (A .same-refl v)
 
+  -- one echo more, one vote more
+  keep-echo : (a b : ℕ) (said : Bool) → keep (cores a b said) Word.echo (suc a) v ≡ cores (suc a) b said
+  keep-echo a b said = λ x. record { spoke = each true said; set = λ w k. sets w k x; val = λ w k. vals w k x }
+    where
+      sets : (w : Word) (k : ℕ) → keep (cores a b said) Word.echo (suc a) v .set w k ≡ cores (suc a) b said .set w k
+      sets Word.echo k = upTo-next a (λ k. true) (λ k. false) k
+      sets Word.vote k = refl
+
+      vals : (w : Word) (k : ℕ) → keep (cores a b said) Word.echo (suc a) v .val w k ≡ cores (suc a) b said .val w k
+      vals Word.echo k = upTo-next a (λ k. v) r₀ k
+      vals Word.vote k = refl
+
+  keep-vote : (a b : ℕ) (said : Bool) → keep (cores a b said) Word.vote (suc b) v ≡ cores a (suc b) said
+  keep-vote a b said = λ x. record { spoke = each true said; set = λ w k. sets w k x; val = λ w k. vals w k x }
+    where
+      sets : (w : Word) (k : ℕ) → keep (cores a b said) Word.vote (suc b) v .set w k ≡ cores a (suc b) said .set w k
+      sets Word.echo k = refl
+      sets Word.vote k = upTo-next b (λ k. true) (λ k. false) k
+
+      vals : (w : Word) (k : ℕ) → keep (cores a b said) Word.vote (suc b) v .val w k ≡ cores a (suc b) said .val w k
+      vals Word.echo k = refl
+      vals Word.vote k = upTo-next b (λ k. v) r₀ k
+
+  -- ---- the vote, the output stage and the delivery, in numbers
+
+  module _ (j a b : ℕ) (said out : Bool) where
+    -- with an echo or a vote just kept
+    abbrev keeping : BoardState B
+    keeping = record { own = j; core = withVote n t (B .same) (cores a b said) v; usable = firstOf a; frag = upTo a f f₀; out = out; done = out }
+
+    abbrev saidNow : Bool
+    saidNow = said || dueBy n t a b
+
+    abbrev outNow : Bool
+    outNow = out || (saidNow && leb (n - t) b)
+
+    abbrev endsNow : Bool
+    endsNow = outNow && (leb (n - t) b && enoughBy n t a)
+
+    module _ (la : a ≤ n) (lb : b ≤ n) where
+      due-is : due n t (B .same) (cores a b said) v ≡ dueBy n t a b
+      due-is = λ x. dueBy n t (naming-count (B .same) v r₀ same-v a n la x) (naming-count (B .same) v r₀ same-v b n lb x)
+
+      quorum-is : quorum n t (B .same) (cores a b said) v ≡ leb (n - t) b
+      quorum-is = λ x. leb (n - t) (naming-count (B .same) v r₀ same-v b n lb x)
+
+      opens-is : opens B keeping v ≡ outNow
+      opens-is = λ x. out || ((said || due-is x) && quorum-is x)
+
+      ends-is : ends B keeping v ≡ endsNow
+      ends-is = λ x. opens-is x && (quorum-is x && enoughBy n t (naming-count (B .same) v r₀ same-v a n la x))
+
+      settled : settle B keeping v ≡ states j a b saidNow outNow (out || endsNow)
+      settled = λ x. record {
+        own = j;
+        core = record { spoke = λ w. speaks w x; set = cores a b said .set; val = cores a b said .val };
+        usable = firstOf a;
+        frag = upTo a f f₀;
+        out = opens-is x;
+        done = out || ends-is x;
+      }
+        where
+          speaks : (w : Word) → keeping .core .spoke w ≡ each true saidNow w
+          speaks Word.echo = refl
+          speaks Word.vote = λ x. said || due-is x
+
+      -- what is delivered then
+      result-is : resultAt B keeping v ≡ pick endsNow (some (C .result v (known a) (upTo a f f₀))) none
+      result-is = λ x. pick (ends-is x) (some (C .result v (λ k. naming (B .same) v r₀ same-v a k x) (upTo a f f₀))) none
+
   -- ---- one record after the other
 
   abbrev m : ℕ → B .Bytes
-  m = mailed {C = C} B v f π
+  m j = B .write (send v (π j) (f j))
 
   abbrev e : ℕ → B .Bytes
-  e = echoing {C = C} B v f π
+  e i = B .write (echo v (π i) (f i))
 
   abbrev w : B .Bytes
-  w = voting {C = C} B v f π
+  w = B .write (vote v)
 
-  acquired : (j : ℕ) → Board 4 j → act B (M .start j) (hand (B .S) (m j)) ≡ take (B .S) (send v (π j) (f j))
-  acquired j b = took A (M .start j) (B .S) (m j) (send v (π j) (f j)) (A .sender) (G .read j b) (rw (is-true (eqb (B .S) (B .S)) (eqb-refl (B .S)), G .short j b) tt)
+  acquired : (j : ℕ) → Board n j → act B (M .start j) (hand (B .S) (m j)) ≡ take (B .S) (send v (π j) (f j))
+  acquired j b = took A (M .start j) (B .S) (m j) (send v (π j) (f j)) (A .sender) (G .read j b)
+      (rw (is-true (eqb (B .S) (B .S)) (eqb-refl (B .S)), G .short j b) tt)
 
-  echo-read : (i : ℕ) → Board 4 i → B .read (e i) ≡ some (echo v (π i) (f i))
+  echo-read : (i : ℕ) → Board n i → B .read (e i) ≡ some (echo v (π i) (f i))
   echo-read i b = A .echo-back (m i) v (π i) (f i) (G .read i b)
 
   vote-read : B .read w ≡ some (vote v)
-  vote-read = A .vote-of-echo (e 2) v (π 2) (f 2) (echo-read 2 two)
+  vote-read = A .vote-of-echo (e (B .S)) v (π (B .S)) (f (B .S)) (echo-read (B .S) (A .sender))
 
-  heard : (s : BoardState B) (i : ℕ) → Board 4 i → s .done ≡ false → s .core .set Word.echo i ≡ false → act B s (hand i (e i)) ≡ take i (echo v (π i) (f i))
-  heard s i b nd ns = took A s i (e i) (echo v (π i) (f i)) b (echo-read i b) (rw (G .short i b, nd, ns) tt)
+  -- what is read as neither is neither of them
+  pub not-said : (i : ℕ) → Board n i → (ρ : B .Bytes) → (B .read ρ ≡ some (echo v (π i) (f i)) → ⊥) → (B .read ρ ≡ some (vote v) → ⊥) → (ρ ≡ e i) ⊎ (ρ ≡ w) → ⊥
+  not-said i b ρ no-echo no-vote (inl q) = no-echo (ap (B .read) q ∙ echo-read i b)
+  not-said i b ρ no-echo no-vote (inr q) = no-vote (ap (B .read) q ∙ vote-read)
 
-  counted : (s : BoardState B) (i : ℕ) → Board 4 i → s .done ≡ false → s .core .set Word.vote i ≡ false → act B s (hand i w) ≡ take i (vote v)
-  counted s i b nd ns = took A s i w (vote v) b vote-read (rw (nd, ns) tt)
-
-  to-s₁ : (j : ℕ) → Board 4 j → M .next (M .start j) (hand (B .S) (m j)) ≡ s₁ j
-  to-s₁ j b = ap (afterAct B (M .start j)) (acquired j b)
-
-  to-s₂ : (j : ℕ) → M .next (s₁ j) (hand 1 (e 1)) ≡ s₂ j
-  unfolding pick count dueBy enoughBy
-  to-s₂ j = ap (afterAct B (s₁ j)) (heard (s₁ j) 1 one refl refl) ∙ rw (G .check 1 one, same-v)
-
-  to-s₃ : (j : ℕ) → M .next (s₂ j) (hand 2 (e 2)) ≡ s₃ j
-  unfolding pick count dueBy enoughBy
-  to-s₃ j = ap (afterAct B (s₂ j)) (heard (s₂ j) 2 two refl refl) ∙ rw (G .check 2 two, same-v)
-
-  to-s₄ : (j : ℕ) → M .next (s₃ j) (hand 3 (e 3)) ≡ s₄ j
-  unfolding pick count dueBy enoughBy
-  to-s₄ j = ap (afterAct B (s₃ j)) (heard (s₃ j) 3 three refl refl) ∙ rw (G .check 3 three, same-v)
-
-  to-s₅ : (j : ℕ) → M .next (s₄ j) (hand 4 (e 4)) ≡ s₅ j
-  unfolding pick count dueBy enoughBy
-  to-s₅ j = ap (afterAct B (s₄ j)) (heard (s₄ j) 4 four refl refl) ∙ rw (G .check 4 four)
-
-  to-s₆ : (j : ℕ) → M .next (s₅ j) (hand 1 w) ≡ s₆ j
-  unfolding pick count dueBy enoughBy
-  to-s₆ j = ap (afterAct B (s₅ j)) (counted (s₅ j) 1 one refl refl) ∙ rw same-v
-
-  to-s₇ : (j : ℕ) → M .next (s₆ j) (hand 2 w) ≡ s₇ j
-  unfolding pick count dueBy enoughBy
-  to-s₇ j = ap (afterAct B (s₆ j)) (counted (s₆ j) 2 two refl refl) ∙ rw same-v
-
-  to-s₈ : (j : ℕ) → M .next (s₇ j) (hand 3 w) ≡ s₈ j
-  unfolding pick count dueBy enoughBy
-  to-s₈ j = ap (afterAct B (s₇ j)) (counted (s₇ j) 3 three refl refl) ∙ rw same-v
-
-  -- ---- what is put out, and what is delivered
-
-  pub echo-out : (j k : ℕ) → Board 4 j → M .puts (M .start j) (hand (B .S) (m j)) k ≡ some (e j)
-  echo-out j k b = ap (putsOut B (M .start j)) (acquired j b) ∙ pick-true (C .check v j (f j) (π j)) (some (e j)) none (subst T (sym (G .check j b)) tt)
-
-  vote-out : (j k : ℕ) → M .puts (s₃ j) (hand 3 (e 3)) k ≡ some w
-  unfolding pick count dueBy
-  vote-out j k = ap (putsOut B (s₃ j)) (heard (s₃ j) 3 three refl refl) ∙ rw same-v
-
-  -- the other echoes, and the votes, bring no record
-  quiet-echoes : (j k : ℕ) → (M .puts (s₁ j) (hand 1 (e 1)) k ≡ none) × (M .puts (s₂ j) (hand 2 (e 2)) k ≡ none) × (M .puts (s₄ j) (hand 4 (e 4)) k ≡ none)
-  unfolding pick count dueBy
-  quiet-echoes j k = (
-    ap (putsOut B (s₁ j)) (heard (s₁ j) 1 one refl refl) ∙ rw same-v,
-    ap (putsOut B (s₂ j)) (heard (s₂ j) 2 two refl refl) ∙ rw same-v,
-    ap (putsOut B (s₄ j)) (heard (s₄ j) 4 four refl refl),
-  )
-
-  quiet-votes : (j k : ℕ) → (M .puts (s₅ j) (hand 1 w) k ≡ none) × (M .puts (s₆ j) (hand 2 w) k ≡ none) × (M .puts (s₇ j) (hand 3 w) k ≡ none)
-      × (M .puts (s₈ j) (hand 4 w) k ≡ none)
+  first-beyond : (i : ℕ) → firstOf i (suc i) ≡ false
   unfolding pick
-  quiet-votes j k = (
-    ap (putsOut B (s₅ j)) (counted (s₅ j) 1 one refl refl),
-    ap (putsOut B (s₆ j)) (counted (s₆ j) 2 two refl refl),
-    ap (putsOut B (s₇ j)) (counted (s₇ j) 3 three refl refl),
-    ap (λ o. putsOut B (s₈ j) (actOn B (s₈ j) 4 o)) vote-read,
-  )
+  first-beyond i = rw (known-beyond i (suc i) (omega arith))
 
-  -- the usable echoes of v, and their fragments, at the end
-  abbrev usable : ℕ → Bool
-  usable i = s₅ 1 .usable i && B .same (s₅ 1 .core .val Word.echo i) v
+  mail-next : (j : ℕ) → Board n j → M .next (M .start j) (hand (B .S) (m j)) ≡ stateAt j 0 0
+  mail-next j b = ap (afterAct B (M .start j)) (acquired j b) ∙ (λ x. record {
+    own = j;
+    core = record { spoke = λ w. speaks w x; set = λ w k. sets w k x; val = λ w k. vals w k x };
+    usable = λ k. upTo-none (λ k. true) (λ k. false) k x;
+    frag = λ k. upTo-none f f₀ k x;
+    out = sym (none-yet A) x;
+    done = sym (none-yet A) x;
+  })
+    where
+      speaks : (w : Word) → setWord (λ w. false) Word.echo true w ≡ each true (leb (n - t) 0) w
+      speaks Word.echo = refl
+      speaks Word.vote = sym (none-yet A)
 
-  abbrev frags : ℕ → C .Frag
-  frags = s₅ 1 .frag
+      sets : (w : Word) (k : ℕ) → false ≡ each (firstOf 0) (firstOf 0) w k
+      sets Word.echo k = upTo-none (λ k. true) (λ k. false) k
+      sets Word.vote k = upTo-none (λ k. true) (λ k. false) k
 
-  given : (j : ℕ) → M .gives (s₇ j) (hand 3 w) ≡ some (C .result v usable frags)
-  unfolding pick count dueBy enoughBy
-  given j = ap (give B (s₇ j)) (counted (s₇ j) 3 three refl refl) ∙ rw same-v
+      vals : (w : Word) (k : ℕ) → r₀ k ≡ each (upTo 0 (λ k. v) r₀) (upTo 0 (λ k. v) r₀) w k
+      vals Word.echo k = upTo-none (λ k. v) r₀ k
+      vals Word.vote k = upTo-none (λ k. v) r₀ k
 
-  all-four : AllFour f usable frags
-  unfolding pick
-  all-four = record {
-    all = each-of-four (λ i. usable i ≡ true) same-v same-v same-v same-v;
-    frag = each-of-four (λ i. frags i ≡ f i) refl refl refl refl;
-  }
+  mail-puts : (j k : ℕ) → Board n j → M .puts (M .start j) (hand (B .S) (m j)) k ≡ some (e j)
+  mail-puts j k b = ap (putsOut B (M .start j)) (acquired j b) ∙ pick-true (C .check v j (f j) (π j)) (some (e j)) none (subst T (sym (G .check j b)) tt)
 
-  -- ---- from the start on
+  -- echo a + 1
+  module _ (j a : ℕ) (next : Board n (suc a)) where
+    heard : act B (stateAt j a 0) (hand (suc a) (e (suc a))) ≡ take (suc a) (echo v (π (suc a)) (f (suc a)))
+    heard = took A (stateAt j a 0) (suc a) (e (suc a)) (echo v (π (suc a)) (f (suc a))) next (echo-read (suc a) next)
+        (rw (G .short (suc a) next, none-yet A, first-beyond a) tt)
 
-  -- from the state s on, the other echoes bring no record; nor do the votes
-  abbrev pub EchoesQuiet : ℕ → BoardState B → Type 0
-  EchoesQuiet k s = (M .puts s (hand 1 (e 1)) k ≡ none) × (M .puts (at1 M s e) (hand 2 (e 2)) k ≡ none) × (M .puts (at3 M s e) (hand 4 (e 4)) k ≡ none)
+    echo-kept : keepAct B (stateAt j a 0) (take (suc a) (echo v (π (suc a)) (f (suc a)))) ≡ keeping j (suc a) 0 (leb (n - t) a) (leb (n - t) 0)
+    echo-kept = λ x. record {
+      own = j;
+      core = withVote n t (B .same) (keep-echo a 0 (leb (n - t) a) x) v;
+      usable = λ k. is-usable k x;
+      frag = λ k. upTo-next a f f₀ k x;
+      out = leb (n - t) 0;
+      done = leb (n - t) 0;
+    }
+      where
+        is-usable : (k : ℕ) → setAt (firstOf a) (suc a) (C .check v (suc a) (f (suc a)) (π (suc a))) k ≡ firstOf (suc a) k
+        is-usable k = ap (λ (c : Bool). setAt (firstOf a) (suc a) c k) (G .check (suc a) next) ∙ upTo-next a (λ k. true) (λ k. false) k
 
-  abbrev pub VotesQuiet : ℕ → BoardState B → Type 0
-  VotesQuiet k s =
-      (M .puts s (hand 1 w) k ≡ none) × (M .puts (at1 M s (λ i. w)) (hand 2 w) k ≡ none)
-      × (M .puts (at2 M s (λ i. w)) (hand 3 w) k ≡ none) × (M .puts (at3 M s (λ i. w)) (hand 4 w) k ≡ none)
+    due-echo : dueBy n t (suc a) 0 ≡ leb (n - t) (suc a)
+    unfolding dueBy
+    due-echo = rw (lt-leb (someBoards t) 0 (omega arith)) (or-false (leb (n - t) (suc a)))
 
-  module _ (j : ℕ) (b : Board 4 j) where
-    -- the state after the send, and what the echoes make of it
-    abbrev sentTo : BoardState B
-    sentTo = M .next (M .start j) (hand (B .S) (m j))
+    said-echo : (leb (n - t) a || dueBy n t (suc a) 0) ≡ leb (n - t) (suc a)
+    said-echo = ap (λ (c : Bool). leb (n - t) a || c) due-echo ∙ go (leb (n - t) a) (leb-true (n - t) a)
+      where
+        go : (c : Bool) → (c ≡ true → n - t ≤ a) → (c || leb (n - t) (suc a)) ≡ leb (n - t) (suc a)
+        go true h = let few = h refl in sym (le-leb (n - t) (suc a) (omega arith))
+        go false h = refl
 
-    echo1 : at1 M sentTo e ≡ s₂ j
-    echo1 = ap (λ s. M .next s (hand 1 (e 1))) (to-s₁ j b) ∙ to-s₂ j
+    echo-next : M .next (stateAt j a 0) (hand (suc a) (e (suc a))) ≡ stateAt j (suc a) 0
+    echo-next =
+        ap (afterAct B (stateAt j a 0)) heard ∙ ap (λ s. settle B s v) echo-kept
+        ∙ settled j (suc a) 0 (leb (n - t) a) (leb (n - t) 0) (next .high) (omega arith) ∙ (λ x. states j (suc a) 0 (said-echo x) (no-output x) (no-end x))
+      where
+        no-output : outNow j (suc a) 0 (leb (n - t) a) (leb (n - t) 0) ≡ leb (n - t) 0
+        no-output = rw (none-yet A) (and-false (leb (n - t) a || dueBy n t (suc a) 0))
 
-    echo2 : at2 M sentTo e ≡ s₃ j
-    echo2 = ap (λ s. M .next s (hand 2 (e 2))) echo1 ∙ to-s₃ j
+        no-end : (leb (n - t) 0 || endsNow j (suc a) 0 (leb (n - t) a) (leb (n - t) 0)) ≡ leb (n - t) 0
+        no-end = rw (none-yet A) (and-false ((leb (n - t) a || dueBy n t (suc a) 0) && false))
 
-    echo3 : at3 M sentTo e ≡ s₄ j
-    echo3 = ap (λ s. M .next s (hand 3 (e 3))) echo2 ∙ to-s₄ j
+    echo-puts : (k : ℕ) → M .puts (stateAt j a 0) (hand (suc a) (e (suc a))) k ≡ voteOut B (pick (not (leb (n - t) a) && leb (n - t) (suc a)) (some v) none)
+    echo-puts k =
+        ap (putsOut B (stateAt j a 0)) heard
+        ∙ (λ x. voteOut B (pick (not (leb (n - t) a) && due n t (B .same) (keep-echo a 0 (leb (n - t) a) x) v) (some v) none))
+        ∙ (λ x. voteOut B (pick (not (leb (n - t) a) && (due-is j (suc a) 0 (leb (n - t) a) false (next .high) (omega arith) ∙ due-echo) x) (some v) none))
 
-    echo4 : at4 M sentTo e ≡ s₅ j
-    echo4 = ap (λ s. M .next s (hand 4 (e 4))) echo3 ∙ to-s₅ j
+  -- vote b + 1, once the boards 1 to h have echoed
+  module _ (h : ℕ) (few : n - t ≤ h) (most : h ≤ n) (j b : ℕ) where
+    module _ (next : suc b ≤ n - t) where
+      counted : act B (stateAt j h b) (hand (suc b) w) ≡ take (suc b) (vote v)
+      counted = took A (stateAt j h b) (suc b) w (vote v) (record { low = omega arith; high = omega arith }) vote-read
+          (rw (lt-leb (n - t) b next, first-beyond b) tt)
 
-    vote1 : at1 M (at4 M sentTo e) (λ i. w) ≡ s₆ j
-    vote1 = ap (λ s. M .next s (hand 1 w)) echo4 ∙ to-s₆ j
+      vote-kept : keepAct B (stateAt j h b) (take (suc b) (vote v)) ≡ keeping j h (suc b) (leb (n - t) h) (leb (n - t) b)
+      vote-kept = λ x. record {
+        own = j;
+        core = withVote n t (B .same) (keep-vote h b (leb (n - t) h) x) v;
+        usable = firstOf h;
+        frag = upTo h f f₀;
+        out = leb (n - t) b;
+        done = leb (n - t) b;
+      }
 
-    vote2 : at2 M (at4 M sentTo e) (λ i. w) ≡ s₇ j
-    vote2 = ap (λ s. M .next s (hand 2 w)) vote1 ∙ to-s₇ j
+      has-voted : leb (n - t) h ≡ true
+      has-voted = le-leb (n - t) h few
 
-    vote3 : at3 M (at4 M sentTo e) (λ i. w) ≡ s₈ j
-    vote3 = ap (λ s. M .next s (hand 3 w)) vote2 ∙ to-s₈ j
+      not-over : leb (n - t) b ≡ false
+      not-over = lt-leb (n - t) b next
 
-    module _ (k : ℕ) where
-      pub vote-due : M .puts (at2 M sentTo e) (hand 3 (e 3)) k ≡ some w
-      vote-due = ap (λ s. M .puts s (hand 3 (e 3)) k) echo2 ∙ vote-out j k
+      ends-vote : endsNow j h (suc b) (leb (n - t) h) (leb (n - t) b) ≡ leb (n - t) (suc b)
+      unfolding enoughBy
+      ends-vote = rw (has-voted, not-over, le-leb (fewestBoards n t) h (omega arith)) (and-twice (leb (n - t) (suc b)))
 
-      pub echoes-quiet : EchoesQuiet k sentTo
-      echoes-quiet =
-          let (a, c, d) = quiet-echoes j k in
-          (ap (λ s. M .puts s (hand 1 (e 1)) k) (to-s₁ j b) ∙ a, ap (λ s. M .puts s (hand 2 (e 2)) k) echo1 ∙ c, ap (λ s. M .puts s (hand 4 (e 4)) k) echo3 ∙ d)
+      vote-next : M .next (stateAt j h b) (hand (suc b) w) ≡ stateAt j h (suc b)
+      vote-next =
+          ap (afterAct B (stateAt j h b)) counted ∙ ap (λ s. settle B s v) vote-kept
+          ∙ settled j h (suc b) (leb (n - t) h) (leb (n - t) b) most (omega arith) ∙ (λ x. states j h (suc b) (still-said x) (output x) (end x))
+        where
+          still-said : saidNow j h (suc b) (leb (n - t) h) (leb (n - t) b) ≡ leb (n - t) h
+          still-said = rw has-voted
 
-      pub votes-quiet : VotesQuiet k (at4 M sentTo e)
-      votes-quiet =
-          let (a, c, d, g) = quiet-votes j k in (
-            ap (λ s. M .puts s (hand 1 w) k) echo4 ∙ a,
-            ap (λ s. M .puts s (hand 2 w) k) vote1 ∙ c,
-            ap (λ s. M .puts s (hand 3 w) k) vote2 ∙ d,
-            ap (λ s. M .puts s (hand 4 w) k) vote3 ∙ g,
-          )
+          output : outNow j h (suc b) (leb (n - t) h) (leb (n - t) b) ≡ leb (n - t) (suc b)
+          output = rw (has-voted, not-over)
 
-    -- the result of the four fragments
-    pub delivery-due : (d : Option (C .Msg)) → ((U : ℕ → Bool) (F : ℕ → C .Frag) → AllFour f U F → C .result v U F ≡ d)
-        → M .gives (at2 M (at4 M sentTo e) (λ i. w)) (hand 3 w) ≡ some d
-    delivery-due d is = ap (λ s. M .gives s (hand 3 w)) vote2 ∙ given j ∙ ap some (is usable frags all-four)
+          end : (leb (n - t) b || endsNow j h (suc b) (leb (n - t) h) (leb (n - t) b)) ≡ leb (n - t) (suc b)
+          end = ap (λ (c : Bool). c || endsNow j h (suc b) (leb (n - t) h) (leb (n - t) b)) not-over ∙ ends-vote
+
+      vote-puts : (k : ℕ) → M .puts (stateAt j h b) (hand (suc b) w) k ≡ none
+      unfolding pick
+      vote-puts k = ap (putsOut B (stateAt j h b)) counted ∙ rw has-voted
+
+      vote-gives : suc b ≡ n - t → M .gives (stateAt j h b) (hand (suc b) w) ≡ some (C .result v (known h) (upTo h f f₀))
+      vote-gives last =
+          ap (give B (stateAt j h b)) counted ∙ ap (λ s. resultAt B s v) vote-kept
+          ∙ result-is j h (suc b) (leb (n - t) h) (leb (n - t) b) most (omega arith)
+          ∙ pick-true (endsNow j h (suc b) (leb (n - t) h) (leb (n - t) b)) (some (C .result v (known h) (upTo h f f₀))) none
+          (subst T (sym (ends-vote ∙ le-leb (n - t) (suc b) (omega arith))) tt)
+
+    -- a board that has delivered refuses every vote
+    done-refuses : n - t ≤ b → (i : ℕ) → act B (stateAt j h b) (hand i w) ≡ refuse
+    unfolding pick
+    done-refuses over i = ap (actOn B (stateAt j h b) i) vote-read ∙ rw (le-leb (n - t) b over, and-false (known n i))
+
+  -- ---- the whole script
+
+  -- every board that has taken its send refuses them
+  abbrev pub Refused : Strays (B .Bytes) → Type 0
+  Refused X = (j k : ℕ) → Board n j → Board (X .rounds) k → act B (stateAt j 0 0) (hand (X .from k) (X .stray k j)) ≡ refuse
+
+  module _ (X : Strays (B .Bytes)) (refused : Refused X) (h : ℕ) (few : n - t ≤ h) (most : h ≤ n) where
+    board-next : (i : ℕ) → i < h → Board n (suc i)
+    board-next i l = record { low = omega arith; high = omega arith }
+
+    no-vote : (i : ℕ) → (i ≡ n - t - 1 → ⊥) → (not (leb (n - t) i) && leb (n - t) (suc i)) ≡ false
+    no-vote i ne = elim (decLt i (n - t)) [
+      | yes l ↦ rw (lt-leb (n - t) (suc i) (omega arith)) (and-false (not (leb (n - t) i)))
+      | no l ↦ rw (le-leb (n - t) i (omega arith))
+    ]
+
+    -- after i votes
+    abbrev votesAt : ℕ → ℕ → BoardState B
+    votesAt j i = stateAt j h (min i (n - t))
+
+    within : (i : ℕ) → i ≤ n - t → min i (n - t) ≡ i
+    within i l = omega arith
+
+    beyond : (i : ℕ) → n - t ≤ i → min i (n - t) ≡ n - t
+    beyond i l = omega arith
+
+    votes-next : (j i : ℕ) → M .next (votesAt j i) (hand (suc i) w) ≡ votesAt j (suc i)
+    votes-next j i = elim (decLt i (n - t)) [
+      | yes l ↦ rw (within i (omega arith), within (suc i) l) (vote-next h few most j i l)
+      | no l ↦ rw (beyond i (omega arith), beyond (suc i) (omega arith))
+          (ap (afterAct B (stateAt j h (n - t))) (done-refuses h few most j (n - t) (omega arith) (suc i)))
+    ]
+
+    votes-puts : (j i k : ℕ) → M .puts (votesAt j i) (hand (suc i) w) k ≡ none
+    votes-puts j i k = elim (decLt i (n - t)) [
+      | yes l ↦ rw (within i (omega arith)) (vote-puts h few most j i l k)
+      | no l ↦ rw (beyond i (omega arith)) (ap (putsOut B (stateAt j h (n - t))) (done-refuses h few most j (n - t) (omega arith) (suc i)))
+    ]
+
+    -- n - t echoes bring the vote, and n - t votes the delivery
+    pub plays : (d : Option (C .Msg)) → C .result v (known h) (upTo h f f₀) ≡ d
+        → Plays M n (scriptOf B v f π X h) (n - t - 1) (λ j i. stateAt j i 0) votesAt d
+    unfolding pick
+    plays d is =
+        let third = A .third in
+        let last : suc (n - t - 1) ≡ n - t = omega arith in
+        record {
+          speakers-few = most;
+          quorum-few = omega arith;
+          mail-next = mail-next;
+          mail-puts = mail-puts;
+          stray-next = λ j k b c. ap (afterAct B (stateAt j 0 0)) (refused j k b c);
+          stray-puts = λ j k a b c. ap (putsOut B (stateAt j 0 0)) (refused j k b c);
+          echo-next = λ j i b l. echo-next j i (board-next i l);
+          echo-puts = λ j i a b l ne. echo-puts j i (board-next i l) a ∙ rw (no-vote i ne);
+          echo-votes = λ j a b. echo-puts j (n - t - 1) (board-next (n - t - 1) (omega arith)) a
+              ∙ rw (lt-leb (n - t) (n - t - 1) (omega arith), le-leb (n - t) (suc (n - t - 1)) (omega arith));
+          echo-last = λ j b. ap (stateAt j h) (sym (within 0 (omega arith)));
+          vote-next = λ j i b l. votes-next j i;
+          vote-puts = λ j i a b l. votes-puts j i a;
+          vote-gives = λ j b. rw (within (n - t - 1) (omega arith)) (vote-gives h few most j (n - t - 1) (omega arith) last ∙ ap some is);
+        }
