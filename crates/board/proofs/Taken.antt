@@ -2,7 +2,7 @@
 use mathlib.Core.Path.{_≡_, refl, subst, ap, _∙_}
 use Prim.Native.Nat.{ℕ, suc, _+_, _-_, _*_, _≤_}
 use mathlib.Core.List.{List}
-use mathlib.Core.Bool.{Bool, true, false, not, _||_}
+use mathlib.Core.Bool.{Bool, true, false, not}
 use native.Mathlib.Omega.{arith}
 use native.Mathlib.Nat.{mul-le-mul-right, suc-mul}
 use borrow.Author.Tests.{ltb-false, not-false}
@@ -21,7 +21,8 @@ use Rattle.table.proofs.Within.{board-number}
 use Rattle.board.specs.declared.Plan.{Plan}
 use Rattle.board.specs.declared.Plan.the-variants.{Refuse, Take}
 use Rattle.board.specs.Planned.{isShort, isStray, isLate, isAgain, byMarks, byForm, planBy, planOf}
-use Rattle.octets.proofs.Picks.{or-none-l, or-none-r}
+use Rattle.octets.proofs.Picks.{or-none-l}
+use Rattle.board.proofs.Buffers.{not-short}
 
 -- a test on the way to taking a record was not met
 unmet : (b : Bool) (q : ℕ) (y : Plan) (k p f : ℕ) → pick b (Refuse q) y ≡ Take k p f → (b ≡ false) × (y ≡ Take k p f)
@@ -67,23 +68,21 @@ read b m from (Form k p f) k′ p′ f′ e =
     (h .0, rw (x, y) at (h .1))
 
 pub taken : (s : List ℕ) (from : ℕ) (r o d : List ℕ) (k p f : ℕ) → planOf s from r o d ≡ Take k p f → Taken s from r o d k p f
-unfolding planOf planBy isShort
+unfolding planOf planBy
 taken s from r o d k p f e =
     let b = tableOf s in
-    let A = ltb (length s) (stateSize b) in
-    let B = ltb (length o) outBytes in
-    let C = ltb (length d) (b .longest) in
     let h1 = unmet (ltb (length s) fixedBytes) _ _ _ _ _ e in
     let h2 = unmet (not (sound (view s))) _ _ _ _ _ (h1 .1) in
-    let h3 = unmet (A || (B || C)) _ _ _ _ _ (h2 .1) in
+    let h3 = unmet (isShort b (length s) (length o) (length d)) _ _ _ _ _ (h2 .1) in
+    let fit = not-short b (length s) (length o) (length d) (h3 .0) in
     let h4 = unmet (not (isBoard b from)) _ _ _ _ _ (h3 .1) in
     let h5 = read b (marksOf s) from (parse r) k p f (h4 .1) in
     record {
       long = ltb-false (length s) fixedBytes (h1 .0);
       sound = not-false (sound (view s)) (h2 .0);
-      room = ltb-false (length s) (stateSize b) (or-none-l A (B || C) (h3 .0));
-      out = ltb-false (length o) outBytes (or-none-l B C (or-none-r A (B || C) (h3 .0)));
-      delivery = ltb-false (length d) (b .longest) (or-none-r B C (or-none-r A (B || C) (h3 .0)));
+      room = fit .0;
+      out = fit .1;
+      delivery = fit .2;
       board = not-false (isBoard b from) (h4 .0);
       form = h5 .0;
       allowed = h5 .1;

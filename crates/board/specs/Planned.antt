@@ -1,7 +1,8 @@
 -- Document 01, "Refusal numbers": what a step is to do with a record. "The first that applies is given."
-use Prim.Native.Nat.{ℕ, _-_}
+use mathlib.Core.Path.{_≡_}
+use Prim.Native.Nat.{ℕ, _-_, _≤_}
 use mathlib.Core.List.{List}
-use mathlib.Core.Bool.{Bool, not, _&&_, _||_}
+use mathlib.Core.Bool.{Bool, true, not, _&&_, _||_}
 use lib.ListN.{length}
 use lib.Dec.{ltb, eqb}
 use Rattle.octets.specs.Bytes.{pick}
@@ -47,15 +48,30 @@ unfoldable pub byForm : Table → Marks → ℕ → Read → Plan
 byForm b m from (Fault why at) = Refuse 5
 byForm b m from (Form k p f) = byMarks b m from k p f
 
--- "a step looks in the order 3, 2, 4, 5, 6, 7, 8, 9, but a state buffer under 4,608 bytes gives 2 at once": by what was read of the record,
--- and the lengths o and d of the outgoing and the delivery buffer
+-- 4, "board number (from ..) not in 1..n"; then by what was read of the record
+abbrev pub byBoard : Table → Marks → ℕ → Read → Plan
+byBoard b m from x = pick (not (isBoard b from)) (Refuse 4) (byForm b m from x)
+
+-- what is looked at before any record: the state, then the lengths of the buffers, o of the outgoing and d of the delivery one; `refuse` says
+-- what a refusal is, by its number, and `next` what there is if none applies
+abbrev pub afterBuffers {ℓ} : {X : Type ℓ} → List ℕ → ℕ → ℕ → (ℕ → X) → X → X
+afterBuffers s o d refuse next =
+    pick (ltb (length s) fixedBytes) (refuse 2)
+    (pick (not (sound (view s))) (refuse 3)
+    (pick (isShort (tableOf s) (length s) o d) (refuse 2)
+    next))
+
+-- what is so if none of these refusals applies
+pub record Ready (s : List ℕ) (o d : ℕ) : Type 0 where
+  pub long : fixedBytes ≤ length s
+  pub sound : sound (view s) ≡ true
+  pub room : stateSize (tableOf s) ≤ length s
+  pub out : outBytes ≤ o
+  pub delivery : tableOf s .longest ≤ d
+
+-- "a step looks in the order 3, 2, 4, 5, 6, 7, 8, 9, but a state buffer under 4,608 bytes gives 2 at once": by what was read of the record
 unfoldable pub planBy : List ℕ → ℕ → ℕ → ℕ → Read → Plan
-planBy s from o d x =
-    pick (ltb (length s) fixedBytes) (Refuse 2)
-    (pick (not (sound (view s))) (Refuse 3)
-    (pick (isShort (tableOf s) (length s) o d) (Refuse 2)
-    (pick (not (isBoard (tableOf s) from)) (Refuse 4)
-    (byForm (tableOf s) (marksOf s) from x))))
+planBy s from o d x = afterBuffers s o d Refuse (byBoard (tableOf s) (marksOf s) from x)
 
 -- by the record itself, read
 unfoldable pub planOf : List ℕ → ℕ → List ℕ → List ℕ → List ℕ → Plan

@@ -22,7 +22,7 @@ ghost use lib.ListN.{length};
 ghost use Rattle.state.specs.State.{fixedBytes};
 ghost use Rattle.octets.specs.Bytes.{put};
 ghost use Rattle.table.specs.Table.{limits, isBoard};
-ghost use Rattle.record.specs.Form.{outBytes, recordOf};
+ghost use Rattle.record.specs.Form.{voteBytes, recordOf};
 ghost use Rattle.board.specs.Stepped.{recordRoot, recordPath, recordFragment, kept, KeptRoom};
 ghost use Rattle.board.specs.Started.{freshBytes, begun, startOf};
 
@@ -55,7 +55,7 @@ pub fn keep_record(s: &mut [u8], max: usize, kind: u8, i: usize, nodes: usize, l
 
 // An echo with the root, path and fragment of `r`, put out.
 pub fn write_echo(out: &mut [u8], r: &[u8], nodes: usize, len: usize)
-    requires { ⌜ (outBytes ≤ length (now out)) × ((nodes ≤ 6) × ((len ≤ 16388) × (39 + 32 * nodes + len ≡ length (now r)))) ⌝ }
+    requires { ⌜ (39 + 32 * nodes + len ≤ length (now out)) × ((nodes ≤ 6) × ((len ≤ 16388) × (39 + 32 * nodes + len ≡ length (now r)))) ⌝ }
     ensures { λ _. ⌜ now (out .exit) ≡ put 0 (recordOf 2 (recordRoot (now (r .entry))) nodes (recordPath nodes (now (r .entry))) (recordFragment nodes len (now (r .entry)))) (now (out .entry)) ⌝ }
 {
     let a = 37 + 32 * nodes;
@@ -66,7 +66,7 @@ pub fn write_echo(out: &mut [u8], r: &[u8], nodes: usize, len: usize)
 
 // A vote for the root of `r`, put out.
 pub fn write_vote(out: &mut [u8], r: &[u8])
-    requires { ⌜ (outBytes ≤ length (now out)) × (35 ≤ length (now r)) ⌝ }
+    requires { ⌜ (voteBytes ≤ length (now out)) × (35 ≤ length (now r)) ⌝ }
     ensures { λ _. ⌜ now (out .exit) ≡ put 0 (recordOf 3 (recordRoot (now (r .entry))) 0 [] []) (now (out .entry)) ⌝ }
 {
     write_parts(out, 3, &r[3..35], 0, &r[0..0], &r[0..0]);

@@ -15,9 +15,12 @@ use table::fragment_most;
 use table::is_board;
 ghost use mathlib.Core.Path.{_≡_};
 ghost use mathlib.Core.Bool.{true};
+ghost use Prim.Native.Nat.{ℕ, _≤_};
+ghost use lib.ListN.{length};
 ghost use Rattle.table.specs.Table.{limits, isBoard};
-ghost use Rattle.board.specs.Planned.{isShort, isStray, isLate, byMarks, planBy, planOf};
-ghost use Rattle.board_plan.specs.Working.{asRead};
+ghost use Rattle.record.specs.Form.{parse};
+ghost use Rattle.state.specs.State.{fixedBytes, tableOf, marksOf};
+ghost use Rattle.board.specs.Planned.{isShort, isStray, isLate, byMarks, byBoard, afterBuffers, planOf};
 
 // Whether it is a send from a board other than S.
 fn stray(b: Table, from: usize, kind: u8) -> bool
@@ -74,53 +77,44 @@ fn short(b: Table, state: usize, out: usize, delivery: usize) -> bool
     delivery < b.longest
 }
 
-// What a step is to do with a record of which this was read, a form or, with kind 0, why and where it is no record; by the state and the
-// lengths of the other buffers.
-fn plan_by(
-    s: &[u8],
-    from: usize,
-    out: usize,
-    delivery: usize,
-    kind: u8,
-    nodes: usize,
-    len: usize,
-) -> Plan
-    ensures { λ x. ⌜ x ≡ planBy (now (s .entry)) from out delivery (asRead kind nodes len) ⌝ }
+// Why a step is refused before its record is looked at, or 0: by the state and the lengths of the other buffers.
+pub fn first_refusal(s: &[u8], out: usize, delivery: usize) -> u32
+    ensures { λ x. ⌜ x ≡ afterBuffers (now (s .entry)) out delivery (λ (q : ℕ). q) 0 ⌝ }
 {
     if s.len() < FIXED_BYTES {
-        return Plan::Refuse { number: 2 };
+        return 2;
     }
     if !is_sound(s) {
-        return Plan::Refuse { number: 3 };
+        return 3;
     }
+    if short(read_table(s), s.len(), out, delivery) {
+        return 2;
+    }
+    0
+}
+
+// What a sound board is to do with the record `r` from a board. It only looks: no buffer is written.
+pub fn plan_record(s: &[u8], from: usize, r: &[u8]) -> Plan
+    requires { ⌜ (fixedBytes ≤ length (now s)) × (limits (tableOf (now s)) ≡ true) ⌝ }
+    ensures { λ x. ⌜ x ≡ byBoard (tableOf (now (s .entry))) (marksOf (now (s .entry))) from (parse (now (r .entry))) ⌝ }
+{
     let b = read_table(s);
-    if short(b, s.len(), out, delivery) {
-        return Plan::Refuse { number: 2 };
-    }
     if !is_board(b, from) {
         return Plan::Refuse { number: 4 };
     }
-    if kind == 0 {
-        return Plan::Refuse { number: 5 };
+    match read_record(r) {
+        Read::Fault { why: _, at: _ } => Plan::Refuse { number: 5 },
+        Read::Form { kind, nodes, len } => by_marks(b, read_marks(s), from, kind, nodes, len),
     }
-    by_marks(b, read_marks(s), from, kind, nodes, len)
 }
 
-// What a step is to do with the record `r` from a board. It only looks: no buffer is written. The record is read first, and plan_by is
-// called in both cases, so that the compiler leaves it its own frame: a path check and a delivery then do not pay for it.
+// What a step is to do with the record `r` from a board.
 pub fn plan_for(s: &[u8], from: usize, r: &[u8], out: &[u8], delivery: &[u8]) -> Plan
     ensures { λ x. ⌜ x ≡ planOf (now (s .entry)) from (now (r .entry)) (now (out .entry)) (now (delivery .entry)) ⌝ }
 {
-    match read_record(r) {
-        Read::Fault { why, at } => plan_by(s, from, out.len(), delivery.len(), 0, why as usize, at),
-        Read::Form { kind, nodes, len } => plan_by(
-            s,
-            from,
-            out.len(),
-            delivery.len(),
-            kind,
-            nodes,
-            len,
-        ),
+    let q = first_refusal(s, out.len(), delivery.len());
+    if q != 0 {
+        return Plan::Refuse { number: q };
     }
+    plan_record(s, from, r)
 }

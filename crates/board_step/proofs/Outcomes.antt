@@ -14,10 +14,10 @@ use Rattle.octets.proofs.Laws.{length-put}
 use Rattle.octets.proofs.Picks.{and-l}
 use Rattle.table.specs.Table.{sMax}
 use Rattle.table.specs.declared.Table.{Table}
-use Rattle.record.specs.Form.{outBytes, isKind, nodesMost, fragmentOk, parse, recordOf}
+use Rattle.record.specs.Form.{isKind, nodesMost, fragmentOk, parse, recordOf}
 use Rattle.record.specs.declared.Read.the-variants.{Form}
 use Rattle.record.proofs.Facts.{whole}
-use Rattle.record.proofs.Round.{read-back, vote-length}
+use Rattle.record.proofs.Round.{read-back}
 use Rattle.state.specs.State.{view, tableOf, ownOf, marksOf}
 use Rattle.state.specs.Sound.{sound}
 use Rattle.state.specs.declared.Marks.{Marks}
@@ -33,7 +33,7 @@ use Rattle.deliver.specs.Delivered.{leftBy}
 use Rattle.board_step.specs.declared.Stepped.{Stepped}
 use Rattle.board_step.specs.Asked.{Formed}
 use Rattle.board_step.specs.Step.{outcome, refused, good, putOut, delivered, saidBy, takenOf, byPlan, stepOf}
-use Rattle.board_step.proofs.Records.{root-length, path-length, fragment-length, echo-length}
+use Rattle.board_step.proofs.Records.{root-length, path-length, fragment-length, said-room, room-most}
 use Rattle.board_step.proofs.Taking.{formed}
 
 module _ (s : List ℕ) (from : ℕ) (r o d : List ℕ) where
@@ -139,13 +139,8 @@ module _ (r : List ℕ) (p f : ℕ) (h : Formed r p f) where
   meant-by false true g = vote vote-reads
   meant-by false false g = nothing
 
-  short : (e v : Bool) → length (putOut e v p f r) ≤ outBytes
-  unfolding putOut pick
-  short true v = omega (arith, echo-length r p f h, h .nodes, h .short)
-  short false true = omega (arith, vote-length (recordRoot r) (root-length r p f h))
-  short false false = omega arith
-
-front-of : (w o : List ℕ) → length w ≤ length o → part 0 (length w) (put 0 w o) ≡ w
+-- what was put out stands at the front of the buffer
+pub front-of : (w o : List ℕ) → length w ≤ length o → part 0 (length w) (put 0 w o) ≡ w
 front-of w o h = part-in 0 w o (omega arith)
 
 module _ (s : List ℕ) (from : ℕ) (r o d : List ℕ) (k p f : ℕ) where
@@ -170,7 +165,7 @@ module _ (s : List ℕ) (from : ℕ) (r o d : List ℕ) (k p f : ℕ) where
           meant = meant-by r p f h echoes votes (sent t);
           size = refl;
           rest = refl;
-          front = front-of (putOut echoes votes p f r) o (omega (arith, short r p f h echoes votes, t .out));
+          front = front-of (putOut echoes votes p f r) o (omega (arith, said-room r p f h k (good k p f from r s) votes, room-most k, t .out));
         },
       )
 

@@ -1,6 +1,6 @@
 -- What a record that is taken gives to the functions that take it.
 use mathlib.Core.Path.{_≡_, refl, sym, ap, fun-ext, _∙_}
-use Prim.Native.Nat.{ℕ, _+_, _-_, _*_, _≤_, _<_}
+use Prim.Native.Nat.{ℕ, _-_, _≤_, _<_}
 use mathlib.Core.List.{List}
 use mathlib.Core.Bool.{Bool, true, false, not, _&&_, _||_}
 use native.Mathlib.Omega.{arith}
@@ -191,7 +191,7 @@ module _ (s : List ℕ) (from : ℕ) (r o d : List ℕ) (k p f : ℕ) (t : Taken
   unfolding settledTo withFlags
   same-usable = refl
 
-  marks-left : marksOf (leaves ok k p f from r s) ≡ after
+  pub marks-left : marksOf (leaves ok k p f from r s) ≡ after
   unfolding leaves
   marks-left = marks-back after bytes (long-still s from r o d k p f t) (fit (tableOf s) after bytes (settled-sounds s from r o d ok k p f t))
 
@@ -216,13 +216,13 @@ module _ (s : List ℕ) (from : ℕ) (r o d : List ℕ) (k p f : ℕ) (t : Taken
       = rw (es, marks-left, left-table ok k p f from r s) (result-still (tableOf s) before after bytes same-usable (recordRoot r)) in
       ex ∙ rw (e2, e1)
 
-  -- what the functions leave, one after the other, is what the definition says
-  pub takes : (s2 o2 d2 : List ℕ) (len : ℕ) (x : Delivered)
+  -- what the functions leave, one after the other, is what the definition says; w is the buffer that was written, o the one of the plan
+  pub takes : (w s2 o2 d2 : List ℕ) (len : ℕ) (x : Delivered)
       → ok ≡ good k p f from r s
       → s2 ≡ leaves ok k p f from r s
       → len ≡ length (saidBy ok k p f from r s)
-      → o2 ≡ put 0 (saidBy ok k p f from r s) o
+      → o2 ≡ put 0 (saidBy ok k p f from r s) w
       → left x d2 ≡ delivered (marksOf s2 .done) (resultIn (tableOf s2) (marksOf s2) s2 (recordRoot r)) d
-      → outcome (stepped 0 len (x .kind) (x .length)) s2 o2 d2 ≡ takenOf k p f s from r o d
+      → outcome (stepped 0 len (x .kind) (x .length)) s2 o2 d2 ≡ takenOf k p f s from r w d
   unfolding takenOf saidBy
-  takes s2 o2 d2 len x ey es el eo ex = rw (← ey, ← result-left s2 d2 x es ex, ← es, ← el, ← eo)
+  takes w s2 o2 d2 len x ey es el eo ex = rw (← ey, ← result-left s2 d2 x es ex, ← es, ← el, ← eo)

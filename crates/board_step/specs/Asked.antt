@@ -4,10 +4,12 @@ use Prim.Native.Nat.{ℕ, _+_, _*_, _≤_, _<_}
 use mathlib.Core.List.{List}
 use mathlib.Core.Bool.{Bool, true}
 use lib.ListN.{length}
-use Rattle.octets.specs.Bytes.{twoAt}
+use lib.Dec.{eqb}
+use Rattle.octets.specs.Bytes.{pick, twoAt}
 use Rattle.octets.specs.Sets.{has}
 use Rattle.table.specs.Table.{limits, sMax}
 use Rattle.table.specs.declared.Table.{Table}
+use Rattle.record.specs.Form.{outBytes, voteBytes}
 use Rattle.state.specs.State.{stateSize, lenAt}
 use Rattle.state.specs.declared.Marks.{Marks}
 use Rattle.board.specs.Stepped.{recordRoot, enoughUsable}
@@ -17,6 +19,10 @@ pub record Formed (r : List ℕ) (p f : ℕ) : Type 0 where
   pub nodes : p ≤ 6
   pub short : f ≤ 16388
   pub ends : 39 + 32 * p + f ≡ length r
+
+-- how many bytes what a record of kind k has put out can have: an echo, as long as the send; or a vote
+unfoldable pub outRoom : ℕ → ℕ
+outRoom k = pick (eqb k 1) outBytes voteBytes
 
 -- what a delivery asks of the bytes kept, s, and of the delivery buffer d
 pub record Deliverable (b : Table) (m : Marks) (s r d : List ℕ) (ends : Bool) : Type 0 where

@@ -22,14 +22,13 @@ ghost use mathlib.Core.Path.{_≡_};
 ghost use mathlib.Core.List.{List};
 ghost use Prim.Native.Nat.{ℕ, _≤_};
 ghost use lib.ListN.{length};
-ghost use Rattle.record.specs.Form.{outBytes};
 ghost use Rattle.octets.specs.Bytes.{put};
 ghost use Rattle.board.specs.declared.Plan.the-variants.{Take};
 ghost use Rattle.board.specs.Planned.{planOf};
 ghost use Rattle.state.specs.State.{fixedBytes, tableOf, marksOf};
 ghost use Rattle.board.specs.Stepped.{recordRoot, leaves};
 ghost use Rattle.deliver.specs.Delivered.{left};
-ghost use Rattle.board_step.specs.Asked.{Formed, Deliverable};
+ghost use Rattle.board_step.specs.Asked.{Formed, outRoom, Deliverable};
 ghost use Rattle.board_step.specs.Step.{placeOf, good, putOut, saidBy, resultIn, delivered};
 
 // What a step answers: 0 or a refusal's number, the length of the record put out, the delivery (0 none, 1 a message, 2 void) and its length.
@@ -67,7 +66,7 @@ pub fn is_good(s: &[u8], from: usize, r: &[u8], kind: u8, nodes: usize, len: usi
 
 // The echo or the vote put out, if there is one; its length.
 fn put_out(out: &mut [u8], r: &[u8], nodes: usize, len: usize, echo: bool, vote: bool) -> u32
-    requires { ⌜ (outBytes ≤ length (now out)) × Formed (now r) nodes len ⌝ }
+    requires { ⌜ (length (putOut echo vote nodes len (now r)) ≤ length (now out)) × Formed (now r) nodes len ⌝ }
     ensures { λ x. ⌜ (x ≡ length (putOut echo vote nodes len (now (r .entry)))) × (now (out .exit) ≡ put 0 (putOut echo vote nodes len (now (r .entry))) (now (out .entry))) ⌝ }
 {
     if echo {
@@ -126,7 +125,8 @@ pub fn deliver_done(s: &[u8], r: &[u8], delivery: &mut [u8]) -> Delivered
     deliver_due(s, b, m, r, m.done, delivery)
 }
 
-// Keeps what a record says and puts out what is then due; the length of the record put out. `good` says whether its path is correct.
+// Keeps what a record says and puts out what is then due; the length of the record put out. `good` says whether its path is correct. The plan
+// was made with an outgoing and a delivery buffer, whatever they are: `out` needs room only for what this kind of record can have put out.
 pub fn take_in(
     s: &mut [u8],
     from: usize,
@@ -137,7 +137,7 @@ pub fn take_in(
     len: usize,
     good: bool,
 ) -> u32
-    requires { ⌜ ((d : List ℕ) × (planOf (now s) from (now r) (now out) d ≡ Take kind nodes len)) ⌝ }
+    requires { ⌜ ((o : List ℕ) × ((d : List ℕ) × (planOf (now s) from (now r) o d ≡ Take kind nodes len))) × (outRoom kind ≤ length (now out)) ⌝ }
     ensures { λ x. ⌜ (now (s .exit) ≡ leaves good kind nodes len from (now (r .entry)) (now (s .entry)))
         × (x ≡ length (saidBy good kind nodes len from (now (r .entry)) (now (s .entry))))
         × (now (out .exit) ≡ put 0 (saidBy good kind nodes len from (now (r .entry)) (now (s .entry))) (now (out .entry))) ⌝ }

@@ -10,8 +10,7 @@ use lib.ListN.{length}
 use Rattle.octets.specs.Bytes.{pick, put, same}
 use Rattle.octets.proofs.Frame.{part-in}
 use Rattle.table.specs.declared.Table.{Table}
-use Rattle.record.specs.Form.{outBytes, recordOf}
-use Rattle.record.proofs.Round.{vote-length}
+use Rattle.record.specs.Form.{recordOf}
 use Rattle.state.specs.State.{tableOf, ownOf, marksOf}
 use Rattle.board.specs.declared.Plan.{Plan}
 use Rattle.board.specs.Planned.{planOf}
@@ -19,7 +18,7 @@ use Rattle.board.specs.Stepped.{recordRoot, recordPath, recordFragment, marked,
 use Rattle.board.proofs.Taken.{Taken, taken}
 use Rattle.board_step.specs.Asked.{Formed}
 use Rattle.board_step.specs.Step.{placeOf, good, putOut, saidBy, takenOf, byPlan}
-use Rattle.board_step.proofs.Records.{root-length, path-length, echo-length}
+use Rattle.board_step.proofs.Records.{path-length, said-room, room-most, no-vote}
 use Rattle.board_step.proofs.Taking.{formed}
 use Rattle.line.specs.Core.{Word, Core}
 use Rattle.line.specs.Core as Core
@@ -52,22 +51,12 @@ unfolding pick writeRecord
 vote-written b true root = refl
 vote-written b false root = refl
 
--- a send brings no vote, and a vote is put out once
-no-vote : (v : Bool) → (not v && (v || false)) ≡ false
-no-vote true = refl
-no-vote false = refl
-
+-- a vote is put out once
 one-vote : (v d : Bool) → (not v && (v || d)) ≡ (not v && d)
 one-vote true d = refl
 one-vote false d = refl
 
 module _ (r : List ℕ) (p f : ℕ) (h : Formed r p f) where
-  pub short : (e v : Bool) → length (putOut e v p f r) ≤ outBytes
-  unfolding putOut pick
-  short true v = omega (arith, echo-length r p f h, h .nodes, h .short)
-  short false true = omega (arith, vote-length (recordRoot r) (root-length r p f h))
-  short false false = omega arith
-
   nodes-is : length (recordPath p r) / 32 ≡ p
   nodes-is = let e = path-length r p f h in omega arith
 
@@ -102,7 +91,7 @@ module _ (s : List ℕ) (from : ℕ) (r o d : List ℕ) where
   put-at k p f t =
       let ok = good k p f from r s in
       record-is (putOut (eqb k 1 && ok) (votesBy k ok p f) p f r) o
-      (omega (arith, short r p f (formed s from r o d k p f t) (eqb k 1 && ok) (votesBy k ok p f), t .out))
+      (omega (arith, said-room r p f (formed s from r o d k p f t) k ok (votesBy k ok p f), room-most k, t .out))
 
   send-quiet : (ok : Bool) (p f : ℕ) → votesBy 1 ok p f ≡ false
   unfolding votedNow marked

@@ -63,7 +63,7 @@ module _ (k : ℕ) (root path fragment : List ℕ) where
         nodes = omega (arith, w .nodes, nodes-le k);
         path-len = w .path-len;
         fragment-len = fragment-most k (length fragment) (w .fragment-ok);
-        room = l;
+        room = omega (arith, w .path-len, w .nodes, nodes-le k, fragment-most k (length fragment) (w .fragment-ok));
       }
 
   -- and are read back from what is written

@@ -74,10 +74,14 @@ partsOk k root path fragment =
 abbrev pub outBytes : ℕ
 outBytes = 16619
 
+-- "a vote record has 39 bytes": so many are enough for a buffer that is for votes alone
+abbrev pub voteBytes : ℕ
+voteBytes = 39
+
 -- what writing a record asks of its parts and of the buffer o
 pub record Parts (o root : List ℕ) (p : ℕ) (path fragment : List ℕ) : Type 0 where
   pub root-len : length root ≡ 32
   pub nodes : p ≤ 6
   pub path-len : length path ≡ 32 * p
   pub fragment-len : length fragment ≤ 16388
-  pub room : outBytes ≤ length o
+  pub room : 39 + 32 * p + length fragment ≤ length o

@@ -10,6 +10,9 @@ ghost use Rattle.record.specs.Form.{Parts, recordOf, partsOk, parse, par
 // How many bytes an outgoing record buffer needs: as many as the longest record has.
 pub const OUT_BYTES: usize = 16619;
 
+// How many bytes a vote record has.
+pub const VOTE_BYTES: usize = 39;
+
 // What reading a record finds. The root is at 3, the path at 37, the fragment at 39 + 32 * nodes.
 pub enum Read {
     Form { kind: u8, nodes: usize, len: usize },

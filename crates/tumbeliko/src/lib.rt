@@ -1,5 +1,6 @@
 // What C calls: every function of the library that firmware links, over the crates that do the work.
 // A slice is a pointer and then a length; every number may come in. include/tumbeliko.h says it for C.
+use board_mailbox::Mailed;
 use board_step::Stepped;
 use code_calls::Digest;
 use octets::Sized;
@@ -15,6 +16,7 @@ ghost use Rattle.code_calls.specs.Reading.{readOut, readOf};
 ghost use Rattle.board.specs.Started.{begun, startOf};
 ghost use Rattle.board_send.specs.Sent.{sendOut, sendOf};
 ghost use Rattle.board_step.specs.Step.{outcome, stepOf};
+ghost use Rattle.board_mailbox.specs.Emptied.{emptied, mailboxOf};
 ghost use Rattle.tumbeliko.specs.Tables.{tableFrom};
 ghost use Rattle.tumbeliko.specs.Records.{partsOf, writeRefusal, written, writeOf};
 
@@ -199,6 +201,22 @@ pub extern "C" fn tumbeliko_step(
         ≡ stepOf (now (state .entry)) from (now («record» .entry)) (now (out .entry)) (now (delivery .entry)) ⌝ }
 {
     board_call::step(state, from as usize, record, out, delivery)
+}
+
+// A whole mailbox through a board's steps, item by item; 2 at once for a state under 4,608 bytes, then 3, 2, 16. An item's own refusal is its answer.
+#[no_mangle]
+pub extern "C" fn tumbeliko_mailbox(
+    state: &mut [u8],
+    mailbox: &[u8],
+    answers: &mut [u8],
+    echo: &mut [u8],
+    vote: &mut [u8],
+    delivery: &mut [u8],
+) -> Mailed
+    ensures { λ r. ⌜ emptied r (now (state .exit)) (now (answers .exit)) (now (echo .exit)) (now (vote .exit)) (now (delivery .exit))
+        ≡ mailboxOf (now (state .entry)) (now (mailbox .entry)) (now (answers .entry)) (now (echo .entry)) (now (vote .entry)) (now (delivery .entry)) ⌝ }
+{
+    board_mailbox::mailbox(state, mailbox, answers, echo, vote, delivery)
 }
 
 // The sender's record for one board; 1, 2, 4, 13.

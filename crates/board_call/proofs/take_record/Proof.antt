@@ -1,7 +1,9 @@
 use mathlib.Core.Path.{sym, _∙_}
+use native.Mathlib.Omega.{arith}
 use borrow.Author.Tests.{not-true}
 use Rattle.board.proofs.Taken.{taken}
 use Rattle.board_step.specs.Step.{good}
+use Rattle.board_step.proofs.Records.{room-most}
 use Rattle.board_step.proofs.Taking.{formed, done-asks, none-due, takes}
 use borrow.Author.Needs.{needs}
 use Rattle.board_call.proofs.take_record.Statement.{statement}
@@ -28,7 +30,9 @@ is-good-requires c κs =
     ((taken (a .s .now) (a .from) (a .r .now) (a .out .now) (a .delivery .now) (a .kind) (a .nodes) (a .len) (p)) .long, formed (a .s .now) (a .from) (a .r .now) (a .out .now) (a .delivery .now) (a .kind) (a .nodes) (a .len) (taken (a .s .now) (a .from) (a .r .now) (a .out .now) (a .delivery .now) (a .kind) (a .nodes) (a .len) (p)))
 
 take-in-requires : tie.Need-take-in-requires
-take-in-requires c κs = (c .before .before .before .before .before .before .before .before .before .args .delivery .now, c .before .before .before .before .before .before .before .before .before .pre)
+take-in-requires c κs =
+    let s = c .before .before .before .before .before .before .before .before .before in let a = s .args in let t = taken (a .s .now) (a .from) (a .r .now) (a .out .now) (a .delivery .now) (a .kind) (a .nodes) (a .len) (s .pre) in
+    ((a .out .now, (a .delivery .now, s .pre)), omega (arith, room-most (a .kind), t .out))
 
 is-done-requires : tie.Need-is-done-requires
 is-done-requires c κs =
@@ -53,7 +57,7 @@ returns-2 c =
     let s = c .before .before .before .before .before .before .before .before .before .before .before .before .before .before .before .before .before .before .before in let a = s .args in let p = s .pre in let take-in = c .before .before .before .before .before .before .before .before .before .take-in in
     let is-good = c .before .before .before .before .before .before .before .before .before .before .before .before .is-good in
     rw (c .answered .ensures)
-    (takes (a .s .now) (a .from) (a .r .now) (a .out .now) (a .delivery .now) (a .kind) (a .nodes) (a .len) (taken (a .s .now) (a .from) (a .r .now) (a .out .now) (a .delivery .now) (a .kind) (a .nodes) (a .len) (p)) (is-good .result) (take-in .last .0) (take-in .last .1 .1 .1 .0) (a .delivery .now) (take-in .result)
+    (takes (a .s .now) (a .from) (a .r .now) (a .out .now) (a .delivery .now) (a .kind) (a .nodes) (a .len) (taken (a .s .now) (a .from) (a .r .now) (a .out .now) (a .delivery .now) (a .kind) (a .nodes) (a .len) (p)) (is-good .result) (a .out .now) (take-in .last .0) (take-in .last .1 .1 .1 .0) (a .delivery .now) (take-in .result)
     (c .before .nothing .result) (is-good .ensures) (take-in .ensures .0) (take-in .ensures .1) (take-in .ensures .2)
     (none-due (c .before .nothing .result) _ _ _ (c .before .nothing .ensures) (sym (c .before .before .before .is-done .ensures) ∙ not-true (c .before .before .before .is-done .result) (c .before .before .if2 .taken))))
 
@@ -80,7 +84,7 @@ returns-3 c =
     let s = c .before .before .before .before .before .before .before .before .before .before .before .before .before .before .before .before .before .before .before .before .before .before .before in let a = s .args in let p = s .pre in
     let take-in = c .before .before .before .before .before .before .before .before .before .before .before .before .before .take-in in let is-good = c .before .before .before .before .before .before .before .before .before .before .before .before .before .before .before .before .is-good in
     rw (c .answered2 .ensures)
-    (takes (a .s .now) (a .from) (a .r .now) (a .out .now) (a .delivery .now) (a .kind) (a .nodes) (a .len) (taken (a .s .now) (a .from) (a .r .now) (a .out .now) (a .delivery .now) (a .kind) (a .nodes) (a .len) (p)) (is-good .result) (take-in .last .0) (take-in .last .1 .1 .1 .0)
+    (takes (a .s .now) (a .from) (a .r .now) (a .out .now) (a .delivery .now) (a .kind) (a .nodes) (a .len) (taken (a .s .now) (a .from) (a .r .now) (a .out .now) (a .delivery .now) (a .kind) (a .nodes) (a .len) (p)) (is-good .result) (a .out .now) (take-in .last .0) (take-in .last .1 .1 .1 .0)
     (c .before .before .before .deliver-done .last .1 .1 .0) (take-in .result) (c .before .before .before .deliver-done .result) (is-good .ensures) (take-in .ensures .0) (take-in .ensures .1) (take-in .ensures .2) (c .before .before .before .deliver-done .ensures))
 
 pub take-record-spec : {M : Type 1} → statement M

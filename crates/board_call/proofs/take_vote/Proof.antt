@@ -1,15 +1,19 @@
 use mathlib.Core.Path.{refl, sym, _∙_}
 use mathlib.Core.Bool.{false}
+use native.Mathlib.Omega.{arith}
 use borrow.Author.Tests.{not-true}
 use Rattle.board.proofs.Taken.{taken}
 use Rattle.board_step.specs.Step.{good}
+use Rattle.board_step.proofs.Records.{room-most}
 use Rattle.board_step.proofs.Taking.{done-asks, none-due, takes}
 use borrow.Author.Needs.{needs}
 use Rattle.board_call.proofs.take_vote.Statement.{statement}
 use Rattle.board_call.proofs.take_vote.Tie as tie
 
 take-in-requires : tie.Need-take-in-requires
-take-in-requires c κs = (c .before .before .before .before .before .before .args .delivery .now, c .before .before .before .before .before .before .pre)
+take-in-requires c κs =
+    let s = c .before .before .before .before .before .before in let a = s .args in let t = taken (a .s .now) (a .from) (a .r .now) (a .out .now) (a .delivery .now) (3) (a .nodes) (a .len) (s .pre) in
+    ((a .out .now, (a .delivery .now, s .pre)), omega (arith, room-most (3), t .out))
 
 is-done-requires : tie.Need-is-done-requires
 is-done-requires c κs =
@@ -33,7 +37,7 @@ unfolding good
 returns c =
     let s = c .before .before .before .before .before .before .before .before .before .before .before .before .before .before .before .before in let a = s .args in let p = s .pre in let take-in = c .before .before .before .before .before .before .before .before .before .take-in in
     rw (c .answered .ensures)
-    (takes (a .s .now) (a .from) (a .r .now) (a .out .now) (a .delivery .now) 3 (a .nodes) (a .len) (taken (a .s .now) (a .from) (a .r .now) (a .out .now) (a .delivery .now) 3 (a .nodes) (a .len) (p)) false (take-in .last .0) (take-in .last .1 .1 .1 .0) (a .delivery .now) (take-in .result) (c .before .nothing .result) refl
+    (takes (a .s .now) (a .from) (a .r .now) (a .out .now) (a .delivery .now) 3 (a .nodes) (a .len) (taken (a .s .now) (a .from) (a .r .now) (a .out .now) (a .delivery .now) 3 (a .nodes) (a .len) (p)) false (a .out .now) (take-in .last .0) (take-in .last .1 .1 .1 .0) (a .delivery .now) (take-in .result) (c .before .nothing .result) refl
     (take-in .ensures .0) (take-in .ensures .1) (take-in .ensures .2) (none-due (c .before .nothing .result) _ _ _ (c .before .nothing .ensures) (sym (c .before .before .before .is-done .ensures) ∙ not-true (c .before .before .before .is-done .result) (c .before .before .if1 .taken))))
 
 deliver-done-requires : tie.Need-deliver-done-requires
@@ -59,7 +63,7 @@ returns-2 c =
     let s = c .before .before .before .before .before .before .before .before .before .before .before .before .before .before .before .before .before .before .before .before in let a = s .args in let p = s .pre in
     let take-in = c .before .before .before .before .before .before .before .before .before .before .before .before .before .take-in in
     rw (c .answered2 .ensures)
-    (takes (a .s .now) (a .from) (a .r .now) (a .out .now) (a .delivery .now) 3 (a .nodes) (a .len) (taken (a .s .now) (a .from) (a .r .now) (a .out .now) (a .delivery .now) 3 (a .nodes) (a .len) (p)) false (take-in .last .0) (take-in .last .1 .1 .1 .0) (c .before .before .before .deliver-done .last .1 .1 .0) (take-in .result)
+    (takes (a .s .now) (a .from) (a .r .now) (a .out .now) (a .delivery .now) 3 (a .nodes) (a .len) (taken (a .s .now) (a .from) (a .r .now) (a .out .now) (a .delivery .now) 3 (a .nodes) (a .len) (p)) false (a .out .now) (take-in .last .0) (take-in .last .1 .1 .1 .0) (c .before .before .before .deliver-done .last .1 .1 .0) (take-in .result)
     (c .before .before .before .deliver-done .result) refl (take-in .ensures .0) (take-in .ensures .1) (take-in .ensures .2) (c .before .before .before .deliver-done .ensures))
 
 pub take-vote-spec : {M : Type 1} → statement M

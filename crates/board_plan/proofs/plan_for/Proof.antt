@@ -1,41 +1,26 @@
--- `board_plan::plan_for` meets its contract.
--- Assumes nothing.
+use Rattle.board.proofs.Buffers.{ready, refused-before, passed-before}
+use Rattle.state.proofs.Facts.{sound-limits}
+use Rattle.state.specs.State.{view}
 use mathlib.Core.Path.{sym, _∙_}
-use Rattle.board_plan.proofs.Plans.{plan-fault, plan-form}
+use Rattle.board.specs.Planned.{planBy, planOf}
+use Rattle.board.specs.declared.Plan.the-variants.{Refuse}
 use borrow.Author.Needs.{needs}
 use Rattle.board_plan.proofs.plan_for.Statement.{statement}
 use Rattle.board_plan.proofs.plan_for.Tie as tie
 
-read-record-requires : tie.Need-read-record-requires
-read-record-requires c κs = search needs
-
-enum-known-why : tie.Need-enum-known-why
-enum-known-why c = search needs
-
-cast-plan-by : tie.Need-cast-plan-by
-cast-plan-by c = search needs
-
-plan-by-requires : tie.Need-plan-by-requires
-plan-by-requires c κs = search needs
-
-enum-known-kind : tie.Need-enum-known-kind
-enum-known-kind c = search needs
-
-plan-by-requires-2 : tie.Need-plan-by-requires-2
-plan-by-requires-2 c κs = search needs
+first-refusal-requires : tie.Need-first-refusal-requires
+first-refusal-requires c κs = search needs
 
 returns : tie.Need-returns
-returns c =
-    let a = c .before .before .before .before .before .before .before .before .before .args in
-    c .plan-by .ensures ∙ plan-fault (a .s .now) (a .from) (a .r .now) (a .out .now) (a .delivery .now) _ _
-    (sym (c .before .before .before .before .read-record .ensures) ∙ c .before .before .why .given .1)
+unfolding planOf planBy
+returns c = refused-before Refuse _ (c .before .first-refusal .result) (c .before .before .before .before .before .before .args .s .now) _ _ (c .before .first-refusal .ensures) (c .if1 .taken)
+
+plan-record-requires : tie.Need-plan-record-requires
+plan-record-requires c κs = let h = ready (c .before .before .before .before .before .before .args .s .now) _ _ 0 (sym (c .before .first-refusal .ensures) ∙ c .if1 .left) .0 in (h .long, sound-limits (view (c .before .before .before .before .before .before .args .s .now)) (h .sound))
 
 returns-2 : tie.Need-returns-2
-returns-2 c =
-    let a = c .before .before .before .before .before .before .before .before .before .args in
-    c .plan-by2 .ensures ∙ plan-form (a .s .now) (a .from) (a .r .now) (a .out .now) (a .delivery .now) _ _ _
-    (sym (c .before .before .before .before .read-record .ensures) ∙ c .before .before .kind .given .1)
+unfolding planOf planBy
+returns-2 c = c .plan-record .ensures ∙ passed-before Refuse _ (c .before .before .first-refusal .result) (c .before .before .before .before .before .before .before .args .s .now) _ _ (c .before .before .first-refusal .ensures) (c .before .if1 .left)
 
 pub plan-for-spec : {M : Type 1} → statement M
-plan-for-spec =
-    tie.close (tie.spec read-record-requires enum-known-why cast-plan-by plan-by-requires enum-known-kind plan-by-requires-2 returns returns-2)
+plan-for-spec = tie.close (tie.spec first-refusal-requires returns plan-record-requires returns-2)

@@ -1,3 +1,4 @@
+use native.Mathlib.Omega.{arith}
 use mathlib.Core.Path.{refl, sym}
 use Rattle.octets.specs.Bytes.{pick}
 use Rattle.record.proofs.Round.{vote-length}
@@ -9,7 +10,8 @@ use Rattle.board_step.proofs.put_out.Statement.{statement}
 use Rattle.board_step.proofs.put_out.Tie as tie
 
 write-echo-requires : tie.Need-write-echo-requires
-write-echo-requires c κs = search needs
+unfolding putOut pick
+write-echo-requires c κs = let room = rw (c .before .if1 .taken) at (c .before .before .before .before .pre .0) in let f = c .before .before .before .before .pre .1 in (omega (arith, echo-length (c .before .before .before .before .args .r .now) (c .before .before .before .before .args .nodes) (c .before .before .before .before .args .len) f), (f .nodes, (f .short, f .ends)))
 
 mul-result : tie.Need-mul-result
 mul-result c = search needs
@@ -32,7 +34,8 @@ returns c =
     let s = c .before .before .before .before .before .before .before in let a = s .args in let p = s .pre in rw (c .before .before .before .before .if1 .taken) (sym (echo-length (a .r .now) (a .nodes) (a .len) (p .1)), c .before .before .write-echo .ensures)
 
 write-vote-requires : tie.Need-write-vote-requires
-write-vote-requires c κs = search needs
+unfolding putOut pick
+write-vote-requires c κs = let room = rw (c .before .before .if1 .left, c .before .if2 .taken) at (c .before .before .before .before .before .pre .0) in let f = c .before .before .before .before .before .pre .1 in (omega (arith, vote-length (recordRoot (c .before .before .before .before .before .args .r .now)) (root-length (c .before .before .before .before .before .args .r .now) (c .before .before .before .before .before .args .nodes) (c .before .before .before .before .before .args .len) f)), omega (arith, f .ends))
 
 same-length-2 : tie.Need-same-length-2
 same-length-2 c = search needs

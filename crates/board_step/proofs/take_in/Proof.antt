@@ -1,3 +1,4 @@
+use Rattle.board_step.proofs.Records.{said-room}
 use native.Mathlib.Omega.{arith}
 use Rattle.table.proofs.Within.{board-number}
 use Rattle.board.proofs.Taken.{taken}
@@ -8,47 +9,47 @@ use Rattle.board_step.proofs.take_in.Tie as tie
 
 read-table-requires : tie.Need-read-table-requires
 read-table-requires c κs =
-    let s = c .before .before .before .before in let a = s .args in let p = s .pre in (taken (a .s .now) (a .from) (a .r .now) (a .out .now) (p .0) (a .kind) (a .nodes) (a .len) (p .1)) .long
+    let s = c .before .before .before .before in let a = s .args in let p = s .pre in (taken (a .s .now) (a .from) (a .r .now) (p .0 .0) (p .0 .1 .0) (a .kind) (a .nodes) (a .len) (p .0 .1 .1)) .long
 
 read-marks-requires : tie.Need-read-marks-requires
 read-marks-requires c κs =
-    let s = c .before .before .before .before .before .before in let a = s .args in let p = s .pre in (taken (a .s .now) (a .from) (a .r .now) (a .out .now) (p .0) (a .kind) (a .nodes) (a .len) (p .1)) .long
+    let s = c .before .before .before .before .before .before in let a = s .args in let p = s .pre in (taken (a .s .now) (a .from) (a .r .now) (p .0 .0) (p .0 .1 .0) (a .kind) (a .nodes) (a .len) (p .0 .1 .1)) .long
 
 sub-mark : tie.Need-sub-mark
 sub-mark c =
-    let s = c .before .before .before .before .before .before .before in let a = s .args in let p = s .pre in let t = (taken (a .s .now) (a .from) (a .r .now) (a .out .now) (p .0) (a .kind) (a .nodes) (a .len) (p .1)) in let (one, few) = board-number _ _ (t .board) in omega arith
+    let s = c .before .before .before .before .before .before .before in let a = s .args in let p = s .pre in let t = (taken (a .s .now) (a .from) (a .r .now) (p .0 .0) (p .0 .1 .0) (a .kind) (a .nodes) (a .len) (p .0 .1 .1)) in let (one, few) = board-number _ _ (t .board) in omega arith
 
 mark-requires : tie.Need-mark-requires
 mark-requires c κs =
-    let s = c .before .before .before .before .before .before .before in let a = s .args in let p = s .pre in number (a .s .now) (a .from) (a .r .now) (a .out .now) (p .0) (a .kind) (a .nodes) (a .len) (taken (a .s .now) (a .from) (a .r .now) (a .out .now) (p .0) (a .kind) (a .nodes) (a .len) (p .1))
+    let s = c .before .before .before .before .before .before .before in let a = s .args in let p = s .pre in number (a .s .now) (a .from) (a .r .now) (p .0 .0) (p .0 .1 .0) (a .kind) (a .nodes) (a .len) (taken (a .s .now) (a .from) (a .r .now) (p .0 .0) (p .0 .1 .0) (a .kind) (a .nodes) (a .len) (p .0 .1 .1))
 
 fragment-most-requires : tie.Need-fragment-most-requires
 fragment-most-requires c κs =
     let s = c .before .before .before .before .before .before .before .before .before in let a = s .args in let p = s .pre in
-    rw (c .before .before .before .before .read-table .ensures) (limited (a .s .now) (a .from) (a .r .now) (a .out .now) (p .0) (a .kind) (a .nodes) (a .len) (taken (a .s .now) (a .from) (a .r .now) (a .out .now) (p .0) (a .kind) (a .nodes) (a .len) (p .1)))
+    rw (c .before .before .before .before .read-table .ensures) (limited (a .s .now) (a .from) (a .r .now) (p .0 .0) (p .0 .1 .0) (a .kind) (a .nodes) (a .len) (taken (a .s .now) (a .from) (a .r .now) (p .0 .0) (p .0 .1 .0) (a .kind) (a .nodes) (a .len) (p .0 .1 .1)))
 
 sub-keep-record : tie.Need-sub-keep-record
 sub-keep-record c =
-    let s = c .before .before .before .before .before .before .before .before .before .before in let a = s .args in let p = s .pre in let t = (taken (a .s .now) (a .from) (a .r .now) (a .out .now) (p .0) (a .kind) (a .nodes) (a .len) (p .1)) in let (one, few) = board-number _ _ (t .board) in omega arith
+    let s = c .before .before .before .before .before .before .before .before .before .before in let a = s .args in let p = s .pre in let t = (taken (a .s .now) (a .from) (a .r .now) (p .0 .0) (p .0 .1 .0) (a .kind) (a .nodes) (a .len) (p .0 .1 .1)) in let (one, few) = board-number _ _ (t .board) in omega arith
 
 keep-record-requires : tie.Need-keep-record-requires
 keep-record-requires c κs =
     let s = c .before .before .before .before .before .before .before .before .before .before in let a = s .args in let p = s .pre in
-    rw (c .fragment-most .ensures .0, c .before .before .before .before .before .read-table .ensures) (has-room (a .s .now) (a .from) (a .r .now) (a .out .now) (p .0) (a .kind) (a .nodes) (a .len) (taken (a .s .now) (a .from) (a .r .now) (a .out .now) (p .0) (a .kind) (a .nodes) (a .len) (p .1)))
+    rw (c .fragment-most .ensures .0, c .before .before .before .before .before .read-table .ensures) (has-room (a .s .now) (a .from) (a .r .now) (p .0 .0) (p .0 .1 .0) (a .kind) (a .nodes) (a .len) (taken (a .s .now) (a .from) (a .r .now) (p .0 .0) (p .0 .1 .0) (a .kind) (a .nodes) (a .len) (p .0 .1 .1)))
 
 settle-requires : tie.Need-settle-requires
 settle-requires c κs =
     let s = c .before .before .before .before .before .before .before .before .before .before .before .before .before .before in let a = s .args in let p = s .pre in let read-table = c .before .before .before .before .before .before .before .before .before .read-table in
-    let w = formed (a .s .now) (a .from) (a .r .now) (a .out .now) (p .0) (a .kind) (a .nodes) (a .len) (taken (a .s .now) (a .from) (a .r .now) (a .out .now) (p .0) (a .kind) (a .nodes) (a .len) (p .1)) in (
-      rw (c .before .before .before .keep-record .ensures, c .before .before .before .before .fragment-most .ensures .0, read-table .ensures) (long-still (a .s .now) (a .from) (a .r .now) (a .out .now) (p .0) (a .kind) (a .nodes) (a .len) (taken (a .s .now) (a .from) (a .r .now) (a .out .now) (p .0) (a .kind) (a .nodes) (a .len) (p .1))),
-      (rw (read-table .ensures) (limited (a .s .now) (a .from) (a .r .now) (a .out .now) (p .0) (a .kind) (a .nodes) (a .len) (taken (a .s .now) (a .from) (a .r .now) (a .out .now) (p .0) (a .kind) (a .nodes) (a .len) (p .1))), omega (arith, w .ends)),
+    let w = formed (a .s .now) (a .from) (a .r .now) (p .0 .0) (p .0 .1 .0) (a .kind) (a .nodes) (a .len) (taken (a .s .now) (a .from) (a .r .now) (p .0 .0) (p .0 .1 .0) (a .kind) (a .nodes) (a .len) (p .0 .1 .1)) in (
+      rw (c .before .before .before .keep-record .ensures, c .before .before .before .before .fragment-most .ensures .0, read-table .ensures) (long-still (a .s .now) (a .from) (a .r .now) (p .0 .0) (p .0 .1 .0) (a .kind) (a .nodes) (a .len) (taken (a .s .now) (a .from) (a .r .now) (p .0 .0) (p .0 .1 .0) (a .kind) (a .nodes) (a .len) (p .0 .1 .1))),
+      (rw (read-table .ensures) (limited (a .s .now) (a .from) (a .r .now) (p .0 .0) (p .0 .1 .0) (a .kind) (a .nodes) (a .len) (taken (a .s .now) (a .from) (a .r .now) (p .0 .0) (p .0 .1 .0) (a .kind) (a .nodes) (a .len) (p .0 .1 .1))), omega (arith, w .ends)),
     )
 
 write-marks-requires : tie.Need-write-marks-requires
 write-marks-requires c κs =
     let s = c .before .before .before .before .before .before .before .before .before .before .before .before .before .before .before .before in let a = s .args in let p = s .pre in
     rw (c .before .before .before .before .before .keep-record .ensures, c .before .before .before .before .before .before .fragment-most .ensures .0, c .before .before .before .before .before .before .before .before .before .before .before .read-table .ensures)
-    (long-still (a .s .now) (a .from) (a .r .now) (a .out .now) (p .0) (a .kind) (a .nodes) (a .len) (taken (a .s .now) (a .from) (a .r .now) (a .out .now) (p .0) (a .kind) (a .nodes) (a .len) (p .1)))
+    (long-still (a .s .now) (a .from) (a .r .now) (p .0 .0) (p .0 .1 .0) (a .kind) (a .nodes) (a .len) (taken (a .s .now) (a .from) (a .r .now) (p .0 .0) (p .0 .1 .0) (a .kind) (a .nodes) (a .len) (p .0 .1 .1)))
 
 both-requires : tie.Need-both-requires
 both-requires c κs = search needs
@@ -57,9 +58,7 @@ both-requires-2 : tie.Need-both-requires-2
 both-requires-2 c κs = search needs
 
 put-out-requires : tie.Need-put-out-requires
-put-out-requires c κs =
-    let s = c .before .before .before .before .before .before .before .before .before .before .before .before .before .before .before .before .before .before .before .before .before .before .before in let a = s .args in let p = s .pre in
-    ((taken (a .s .now) (a .from) (a .r .now) (a .out .now) (p .0) (a .kind) (a .nodes) (a .len) (p .1)) .out, formed (a .s .now) (a .from) (a .r .now) (a .out .now) (p .0) (a .kind) (a .nodes) (a .len) (taken (a .s .now) (a .from) (a .r .now) (a .out .now) (p .0) (a .kind) (a .nodes) (a .len) (p .1)))
+put-out-requires c κs = let a = c .before .before .before .before .before .before .before .before .before .before .before .before .before .before .before .before .before .before .before .before .before .before .before .args in let p = c .before .before .before .before .before .before .before .before .before .before .before .before .before .before .before .before .before .before .before .before .before .before .before .pre in let f = formed (a .s .now) (a .from) (a .r .now) (p .0 .0) (p .0 .1 .0) (a .kind) (a .nodes) (a .len) (taken (a .s .now) (a .from) (a .r .now) (p .0 .0) (p .0 .1 .0) (a .kind) (a .nodes) (a .len) (p .0 .1 .1)) in (rw (c .before .before .both .ensures) (omega (arith, said-room (a .r .now) (a .nodes) (a .len) f (a .kind) (a .good) (c .both2 .result), p .1)), f)
 
 same-length : tie.Need-same-length
 same-length c = search needs

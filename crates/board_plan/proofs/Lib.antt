@@ -1,2 +1,0 @@
--- Laws of `board_plan`: Plans of what was read.
-pub mod Plans

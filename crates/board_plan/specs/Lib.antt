@@ -1,2 +1,0 @@
--- What the contracts of `board_plan` cite beside those of `board`.
-pub mod Working

@@ -1,0 +1,2 @@
+-- Laws of `mailbox`: Framing.
+pub mod Framing

@@ -1,0 +1,2 @@
+-- What the contracts of `mailbox`, and of `board_mailbox`, cite.
+pub mod Items
