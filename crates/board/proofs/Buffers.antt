@@ -13,7 +13,7 @@ use Rattle.table.specs.declared.Table.{Table}
 use Rattle.record.specs.Form.{outBytes, parse}
 use Rattle.state.specs.State.{fixedBytes, view, stateSize, tableOf, marksOf}
 use Rattle.state.specs.Sound.{sound}
-use Rattle.board.specs.Planned.{isShort, byBoard, afterBuffers, Ready, planBy, planOf}
+use Rattle.board.specs.Planned.{isShort, byBoard, afterBuffers, BuffersDo, planBy, planOf}
 
 -- buffers that are not short
 pub not-short : (b : Table) (s o d : ℕ) → isShort b s o d ≡ false → (stateSize b ≤ s) × (outBytes ≤ o) × (b .longest ≤ d)
@@ -26,7 +26,7 @@ not-short b s o d e =
     (ltb-false s (stateSize b) (or-none-l A (B || C) e), ltb-false o outBytes (or-none-l B C g), ltb-false d (b .longest) (or-none-r B C g))
 
 -- no refusal before any record: the state and the buffers are as they must be
-pub ready : (s : List ℕ) (o d next : ℕ) → afterBuffers s o d (λ (q : ℕ). q) next ≡ 0 → Ready s o d × (next ≡ 0)
+pub ready : (s : List ℕ) (o d next : ℕ) → afterBuffers s o d (λ (q : ℕ). q) next ≡ 0 → BuffersDo s o d × (next ≡ 0)
 ready s o d next e =
     let h1 = none-applies (ltb (length s) fixedBytes) 1 _ e in
     let h2 = none-applies (not (sound (view s))) 2 _ (h1 .1) in
@@ -43,7 +43,7 @@ ready s o d next e =
     )
 
 -- the plan for a record is then by the board that it comes from, and by the record
-pub ready-plan : (s : List ℕ) (from : ℕ) (r o d : List ℕ) → Ready s (length o) (length d)
+pub ready-plan : (s : List ℕ) (from : ℕ) (r o d : List ℕ) → BuffersDo s (length o) (length d)
     → planOf s from r o d ≡ byBoard (tableOf s) (marksOf s) from (parse r)
 unfolding planOf planBy isShort pick
 ready-plan s from r o d h =

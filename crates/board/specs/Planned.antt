@@ -62,7 +62,7 @@ afterBuffers s o d refuse next =
     next))
 
 -- what is so if none of these refusals applies
-pub record Ready (s : List ℕ) (o d : ℕ) : Type 0 where
+pub record BuffersDo (s : List ℕ) (o d : ℕ) : Type 0 where
   pub long : fixedBytes ≤ length s
   pub sound : sound (view s) ≡ true
   pub room : stateSize (tableOf s) ≤ length s

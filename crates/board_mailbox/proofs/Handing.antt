@@ -14,7 +14,7 @@ use Rattle.record.proofs.Facts.{whole}
 use Rattle.state.specs.State.{tableOf, marksOf}
 use Rattle.board.specs.declared.Plan.{Plan}
 use Rattle.board.specs.declared.Plan.the-variants.{Refuse, Take}
-use Rattle.board.specs.Planned.{byBoard, Ready, planOf}
+use Rattle.board.specs.Planned.{byBoard, BuffersDo, planOf}
 use Rattle.board.specs.Stepped.{recordRoot, marked, kept, votedNow, endsNow, leaves}
 use Rattle.board.proofs.Buffers.{ready-plan}
 use Rattle.board.proofs.Taken.{Taken, taken, listed}
@@ -26,7 +26,7 @@ use Rattle.board_step.proofs.Outcomes.{front-of}
 use Rattle.mailbox.specs.Items.{Item}
 use Rattle.board_mailbox.specs.declared.Mailed.{Mailed}
 use Rattle.board_mailbox.specs.Asked.{refusalIn}
-use Rattle.board_mailbox.specs.Emptied.{Emptied, emptied, withEcho, withVote, withDelivery, filed, handed}
+use Rattle.board_mailbox.specs.Emptied.{Emptied, emptied, filedEcho, filedVote, filedDelivery, filed, handed}
 
 -- ---- what the refusal's number says of the plan
 
@@ -49,7 +49,7 @@ module _ (s : List ℕ) (from : ℕ) (r o d : List ℕ) where
       let len : length r - 39 - 32 * p ≡ f = omega (arith, w .ends) in
       record { plan = rw (w .kind, w .path-count, len) e; ends = omega (arith, w .ends, w .path-count) }
 
-  module _ (h : Ready s (length o) (length d)) (q : ℕ) (e : q ≡ refusalIn (byBoard (tableOf s) (marksOf s) from (parse r))) where
+  module _ (h : BuffersDo s (length o) (length d)) (q : ℕ) (e : q ≡ refusalIn (byBoard (tableOf s) (marksOf s) from (parse r))) where
     planned : q ≡ refusalIn (planOf s from r o d)
     planned = e ∙ ap refusalIn (sym (ready-plan s from r o d h))
 
@@ -65,7 +65,7 @@ module _ (s : List ℕ) (from : ℕ) (r o d : List ℕ) where
   few (Take k p f) e = omega arith
 
   -- a refusal's number fits into a byte
-  pub number-few : Ready s (length o) (length d) → (q : ℕ) → q ≡ refusalIn (byBoard (tableOf s) (marksOf s) from (parse r)) → q ≤ 9
+  pub number-few : BuffersDo s (length o) (length d) → (q : ℕ) → q ≡ refusalIn (byBoard (tableOf s) (marksOf s) from (parse r)) → q ≤ 9
   number-few h q e = rw (planned h q e) (few (planOf s from r o d) refl)
 
 -- ---- what is filed
@@ -77,7 +77,7 @@ module _ (i : ℕ) (m : Mailed) (s a e v d : List ℕ) where
   -- a record w, put out into the echo buffer, and what is left beside it
   filed-by : (w s2 d2 : List ℕ) (z n : ℕ) → length w ≤ length e
       → filed i (outcome (stepped 0 (length w) z n) s2 (put 0 w e) d2) before
-      ≡ emptied (withDelivery z n (withVote (pick (eqb (getD w 0 0) 3) (length w) 0) (withEcho (pick (eqb (getD w 0 0) 2) (length w) 0) m))) s2
+      ≡ emptied (filedDelivery z n (filedVote (pick (eqb (getD w 0 0) 3) (length w) 0) (filedEcho (pick (eqb (getD w 0 0) 2) (length w) 0) m))) s2
       (put i (0 ∷ []) a) (pick (eqb (getD w 0 0) 2) (put 0 w e) e) (pick (eqb (getD w 0 0) 3) (put 0 w v) v) d2
   unfolding filed
   filed-by w s2 d2 z n h = rw (front-of w e h)
@@ -85,16 +85,16 @@ module _ (i : ℕ) (m : Mailed) (s a e v d : List ℕ) where
   -- after a send it is an echo
   filed-send : (g : Bool) (p f : ℕ) (r s2 d2 : List ℕ) (z n : ℕ) → length (putOut g false p f r) ≤ length e
       → filed i (outcome (stepped 0 (length (putOut g false p f r)) z n) s2 (put 0 (putOut g false p f r) e) d2) before
-      ≡ emptied (withDelivery z n (withEcho (length (putOut g false p f r)) m)) s2 (put i (0 ∷ []) a) (put 0 (putOut g false p f r) e) v d2
-  unfolding putOut pick recordOf withVote put
+      ≡ emptied (filedDelivery z n (filedEcho (length (putOut g false p f r)) m)) s2 (put i (0 ∷ []) a) (put 0 (putOut g false p f r) e) v d2
+  unfolding putOut pick recordOf filedVote put
   filed-send true p f r s2 d2 z n h = filed-by (putOut true false p f r) s2 d2 z n h
   filed-send false p f r s2 d2 z n h = filed-by [] s2 d2 z n h
 
   -- after an echo or a vote it is a vote
   filed-word : (g : Bool) (p f : ℕ) (r s2 d2 : List ℕ) (z n : ℕ) → length (putOut false g p f r) ≤ length e
       → filed i (outcome (stepped 0 (length (putOut false g p f r)) z n) s2 (put 0 (putOut false g p f r) e) d2) before
-      ≡ emptied (withDelivery z n (withVote (length (putOut false g p f r)) m)) s2 (put i (0 ∷ []) a) e (put 0 (putOut false g p f r) v) d2
-  unfolding putOut pick recordOf withEcho put
+      ≡ emptied (filedDelivery z n (filedVote (length (putOut false g p f r)) m)) s2 (put i (0 ∷ []) a) e (put 0 (putOut false g p f r) v) d2
+  unfolding putOut pick recordOf filedEcho put
   filed-word true p f r s2 d2 z n h = filed-by (putOut false true p f r) s2 d2 z n h
   filed-word false p f r s2 d2 z n h = filed-by [] s2 d2 z n h
 
@@ -127,15 +127,15 @@ module _ (i : ℕ) (m : Mailed) (s a e v d : List ℕ) (from : ℕ) (r : List �
   item = record { board = from; bytes = r }
 
   pub handed-refused : (q : ℕ) → planOf s from r e d ≡ Refuse q → emptied m s (put i (q ∷ []) a) e v d ≡ handed i item (emptied m s a e v d)
-  unfolding handed filed stepOf byPlan withDelivery withVote withEcho pick part
+  unfolding handed filed stepOf byPlan filedDelivery filedVote filedEcho pick part
   handed-refused q h = rw h
 
   -- what a send that was taken leaves, by what its step leaves
   afterSend : Outcome → Emptied
-  afterSend y = emptied (withEcho (y .answer .«record_length») m) (y .state) (put i (0 ∷ []) a) (y .out) v (y .delivery)
+  afterSend y = emptied (filedEcho (y .answer .«record_length») m) (y .state) (put i (0 ∷ []) a) (y .out) v (y .delivery)
 
   send-by : (p f : ℕ) → planOf s from r e d ≡ Take 1 p f → afterSend (takenOf 1 p f s from r e d) ≡ handed i item (emptied m s a e v d)
-  unfolding afterSend handed stepOf byPlan takenOf endsNow delivered withDelivery pick
+  unfolding afterSend handed stepOf byPlan takenOf endsNow delivered filedDelivery pick
   send-by p f h =
       let ok = good 1 p f from r s in
       let w = said-send s from r p f ok in
@@ -144,14 +144,14 @@ module _ (i : ℕ) (m : Mailed) (s a e v d : List ℕ) (from : ℕ) (r : List �
       rw (h, w) (sym (filed-send i m s a e v d ok p f r (leaves ok 1 p f from r s) d 0 0 room))
 
   pub handed-send : (p f x : ℕ) (s2 e2 : List ℕ) → planOf s from r e d ≡ Take 1 p f → outcome (stepped 0 x 0 0) s2 e2 d ≡ takenOf 1 p f s from r e d
-      → emptied (withEcho x m) s2 (put i (0 ∷ []) a) e2 v d ≡ handed i item (emptied m s a e v d)
+      → emptied (filedEcho x m) s2 (put i (0 ∷ []) a) e2 v d ≡ handed i item (emptied m s a e v d)
   unfolding afterSend
   handed-send p f x s2 e2 h y = ap afterSend y ∙ send-by p f h
 
   -- what an echo or a vote that was taken leaves
   afterWord : Outcome → Emptied
   afterWord y =
-      emptied (withDelivery (y .answer .delivery) (y .answer .«message_length») (withVote (y .answer .«record_length») m)) (y .state) (put i (0 ∷ []) a) e
+      emptied (filedDelivery (y .answer .delivery) (y .answer .«message_length») (filedVote (y .answer .«record_length») m)) (y .state) (put i (0 ∷ []) a) e
       (y .out) (y .delivery)
 
   word-by : (k p f : ℕ) → (k ≡ 1 → ⊥) → planOf s from r e d ≡ Take k p f → afterWord (takenOf k p f s from r v d) ≡ handed i item (emptied m s a e v d)
@@ -166,7 +166,7 @@ module _ (i : ℕ) (m : Mailed) (s a e v d : List ℕ) (from : ℕ) (r : List �
 
   pub handed-word : (k p f : ℕ) (y : Stepped) (s2 v2 d2 : List ℕ) → (k ≡ 1 → ⊥) → planOf s from r e d ≡ Take k p f
       → outcome y s2 v2 d2 ≡ takenOf k p f s from r v d
-      → emptied (withDelivery (y .delivery) (y .«message_length») (withVote (y .«record_length») m)) s2 (put i (0 ∷ []) a) e v2 d2 ≡ handed i item (emptied m s a e v d)
+      → emptied (filedDelivery (y .delivery) (y .«message_length») (filedVote (y .«record_length») m)) s2 (put i (0 ∷ []) a) e v2 d2 ≡ handed i item (emptied m s a e v d)
   unfolding afterWord
   handed-word k p f y s2 v2 d2 n h z = ap afterWord z ∙ word-by k p f n h
 

@@ -25,7 +25,7 @@ use Rattle.board_step.proofs.Taking.{marks-left}
 use Rattle.board_step.proofs.Outcomes.{front-of}
 use Rattle.mailbox.specs.Items.{Item}
 use Rattle.board_mailbox.specs.Emptied.{Emptied, putOutBy, isPut, stepFor, filed, handed}
-use Rattle.board_mailbox.specs.Once.{delivers, times, OneOfEach}
+use Rattle.board_mailbox.specs.Once.{delivers, howOften, OneOfEach}
 use Rattle.board_mailbox.proofs.Handing.{voting, said-short}
 
 -- a step that leaves y from s does something only with the flag down, and then it is up; it never goes down
@@ -140,23 +140,23 @@ module _ (flag : Marks → Bool) (does : Outcome → Bool) (once : (s : List ℕ
   not-twice true c e h = never (sym (h refl) ∙ e)
   not-twice false c e h = refl
 
-  none-after : (i : ℕ) (items : List Item) (x : Emptied) → flag (marksOf (x .state)) ≡ true → times does i items x ≡ 0
-  unfolding times
+  none-after : (i : ℕ) (items : List Item) (x : Emptied) → flag (marksOf (x .state)) ≡ true → howOften does i items x ≡ 0
+  unfolding howOften
   none-after i [] x h = refl
   none-after i (item ∷ rest) x h =
       let z = step-once item x in
       let a : bit (does (stepFor item x)) ≡ 0 = bit-none _ (not-twice (does (stepFor item x)) (flag (marksOf (x .state))) h (z .first)) in
-      let b : times does (i + 1) rest (handed i item x) ≡ 0 = none-after (i + 1) rest (handed i item x) (rw (left-by i item x) (z .keeps h)) in
+      let b : howOften does (i + 1) rest (handed i item x) ≡ 0 = none-after (i + 1) rest (handed i item x) (rw (left-by i item x) (z .keeps h)) in
       omega (arith, a, b)
 
-  once-more : (i : ℕ) (item : Item) (rest : List Item) (x : Emptied) (b : Bool) → does (stepFor item x) ≡ b → times does (i + 1) rest (handed i item x) ≤ 1
-      → bit b + times does (i + 1) rest (handed i item x) ≤ 1
+  once-more : (i : ℕ) (item : Item) (rest : List Item) (x : Emptied) (b : Bool) → does (stepFor item x) ≡ b → howOften does (i + 1) rest (handed i item x) ≤ 1
+      → bit b + howOften does (i + 1) rest (handed i item x) ≤ 1
   once-more i item rest x true e h =
       omega (arith, none-after (i + 1) rest (handed i item x) (rw (left-by i item x) (step-once item x .sets e)))
   once-more i item rest x false e h = omega arith
 
-  at-most-one : (i : ℕ) (items : List Item) (x : Emptied) → times does i items x ≤ 1
-  unfolding times
+  at-most-one : (i : ℕ) (items : List Item) (x : Emptied) → howOften does i items x ≤ 1
+  unfolding howOften
   at-most-one i [] x = omega arith
   at-most-one i (item ∷ rest) x = once-more i item rest x (does (stepFor item x)) refl (at-most-one (i + 1) rest (handed i item x))
 

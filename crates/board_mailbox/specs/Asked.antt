@@ -5,7 +5,7 @@ use lib.ListN.{length}
 use Rattle.record.specs.Form.{voteBytes}
 use Rattle.board.specs.declared.Plan.{Plan}
 use Rattle.board.specs.declared.Plan.the-variants.{Refuse, Take}
-use Rattle.board.specs.Planned.{Ready}
+use Rattle.board.specs.Planned.{BuffersDo}
 
 -- the number by which a plan refuses, or 0
 unfoldable pub refusalIn : Plan → ℕ
@@ -14,5 +14,5 @@ refusalIn (Take k p f) = 0
 
 -- a state and buffers that no refusal before the items applies to
 pub record Open (s e v d : List ℕ) : Type 0 where
-  pub ready : Ready s (length e) (length d)
+  pub ready : BuffersDo s (length e) (length d)
   pub vote : voteBytes ≤ length v

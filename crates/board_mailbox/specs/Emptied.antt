@@ -39,8 +39,8 @@ abbrev pub isPut : ℕ → Outcome → Bool
 isPut k y = eqb (getD (putOutBy y) 0 0) k
 
 -- an answer with the length of an echo put out; 0 is none
-unfoldable pub withEcho : ℕ → Mailed → Mailed
-withEcho len m = pick (eqb len 0) m (record {
+unfoldable pub filedEcho : ℕ → Mailed → Mailed
+filedEcho len m = pick (eqb len 0) m (record {
   number = m .number;
   «echo_length» = len;
   «vote_length» = m .«vote_length»;
@@ -49,8 +49,8 @@ withEcho len m = pick (eqb len 0) m (record {
 })
 
 -- with the length of a vote
-unfoldable pub withVote : ℕ → Mailed → Mailed
-withVote len m = pick (eqb len 0) m (record {
+unfoldable pub filedVote : ℕ → Mailed → Mailed
+filedVote len m = pick (eqb len 0) m (record {
   number = m .number;
   «echo_length» = m .«echo_length»;
   «vote_length» = len;
@@ -59,8 +59,8 @@ withVote len m = pick (eqb len 0) m (record {
 })
 
 -- with a delivery and its length
-unfoldable pub withDelivery : ℕ → ℕ → Mailed → Mailed
-withDelivery kind len m = pick (eqb kind 0) m (record {
+unfoldable pub filedDelivery : ℕ → ℕ → Mailed → Mailed
+filedDelivery kind len m = pick (eqb kind 0) m (record {
   number = m .number;
   «echo_length» = m .«echo_length»;
   «vote_length» = m .«vote_length»;
@@ -73,8 +73,8 @@ withDelivery kind len m = pick (eqb kind 0) m (record {
 unfoldable pub filed : ℕ → Outcome → Emptied → Emptied
 filed i y x = record {
   answer =
-      withDelivery (y .answer .delivery) (y .answer .«message_length»)
-      (withVote (pick (isPut 3 y) (y .answer .«record_length») 0) (withEcho (pick (isPut 2 y) (y .answer .«record_length») 0) (x .answer)));
+      filedDelivery (y .answer .delivery) (y .answer .«message_length»)
+      (filedVote (pick (isPut 3 y) (y .answer .«record_length») 0) (filedEcho (pick (isPut 2 y) (y .answer .«record_length») 0) (x .answer)));
   state = y .state;
   answers = put i (y .answer .number ∷ []) (x .answers);
   echo = pick (isPut 2 y) (put 0 (putOutBy y) (x .echo)) (x .echo);

@@ -13,12 +13,12 @@ abbrev pub delivers : Outcome → Bool
 delivers y = not (eqb (y .answer .delivery) 0)
 
 -- how many of the items, handed over singly from item i on, have a step of which this is so
-unfoldable pub times : (Outcome → Bool) → ℕ → List Item → Emptied → ℕ
-times does i [] x = 0
-times does i (item ∷ rest) x = bit (does (stepFor item x)) + times does (i + 1) rest (handed i item x)
+unfoldable pub howOften : (Outcome → Bool) → ℕ → List Item → Emptied → ℕ
+howOften does i [] x = 0
+howOften does i (item ∷ rest) x = bit (does (stepFor item x)) + howOften does (i + 1) rest (handed i item x)
 
 -- one echo at most, one vote and one delivery: so one buffer for each is enough
 pub record OneOfEach (items : List Item) (x : Emptied) : Type 0 where
-  pub echo : times (isPut 2) 0 items x ≤ 1
-  pub vote : times (isPut 3) 0 items x ≤ 1
-  pub delivery : times delivers 0 items x ≤ 1
+  pub echo : howOften (isPut 2) 0 items x ≤ 1
+  pub vote : howOften (isPut 3) 0 items x ≤ 1
+  pub delivery : howOften delivers 0 items x ≤ 1

@@ -29,7 +29,7 @@ ghost use Rattle.deliver.specs.Delivered.{left};
 ghost use Rattle.board_step.specs.Asked.{outRoom, Deliverable};
 ghost use Rattle.board_step.specs.Step.{stepped, outcome, resultIn, delivered, takenOf};
 ghost use Rattle.mailbox.specs.Items.{countOf, framed, itemsOf};
-ghost use Rattle.board_mailbox.specs.Emptied.{onlyNumber, emptied, withEcho, withVote, withDelivery, handed, handedAll, mailboxRefusal, mailboxOf};
+ghost use Rattle.board_mailbox.specs.Emptied.{onlyNumber, emptied, filedEcho, filedVote, filedDelivery, handed, handedAll, mailboxRefusal, mailboxOf};
 ghost use Rattle.board_mailbox.specs.Asked.{refusalIn, Open};
 
 // What a mailbox answers: 0 or a refusal's number, the lengths of the echo and of the vote put out, the delivery (0 none, 1 a message, 2 void)
@@ -58,7 +58,7 @@ fn only_number(q: u32) -> Mailed
 
 // An answer with an echo of so many bytes, if there is one.
 fn with_echo(m: Mailed, len: u32) -> Mailed
-    ensures { λ x. ⌜ x ≡ withEcho len m ⌝ }
+    ensures { λ x. ⌜ x ≡ filedEcho len m ⌝ }
 {
     if len == 0 {
         return m;
@@ -74,7 +74,7 @@ fn with_echo(m: Mailed, len: u32) -> Mailed
 
 // An answer with a vote of so many bytes, if there is one.
 fn with_vote(m: Mailed, len: u32) -> Mailed
-    ensures { λ x. ⌜ x ≡ withVote len m ⌝ }
+    ensures { λ x. ⌜ x ≡ filedVote len m ⌝ }
 {
     if len == 0 {
         return m;
@@ -90,7 +90,7 @@ fn with_vote(m: Mailed, len: u32) -> Mailed
 
 // An answer with a delivery, if there is one.
 fn with_delivery(m: Mailed, kind: u32, len: u32) -> Mailed
-    ensures { λ x. ⌜ x ≡ withDelivery kind len m ⌝ }
+    ensures { λ x. ⌜ x ≡ filedDelivery kind len m ⌝ }
 {
     if kind == 0 {
         return m;
