@@ -25,9 +25,12 @@ CRATES    = crates.txt $(wildcard crates/*/src/*.rt crates/*/specs/*.antt crates
 REFERENCE = tests/reference/hash.c tests/reference/code.c tests/reference/board.c tests/reference/drill.c
 HARNESS   = tests/harness.c
 TREES     = tests/trees.c
+STATES    = tests/states.c $(TREES)
+MAIL      = tests/mail.c
 LINE      = $(wildcard examples/line/*.c examples/line/*.h)
 FUZZ      = fuzz/fuzz.c fuzz/drawn.c fuzz/ground.c fuzz/board.c fuzz/drill.c
-HEADERS   = include/tumbeliko.h include/drill.h tests/harness.h tests/trees.h tests/reference/reference.h bench/plain.h bench/clock.h
+HEADERS   = include/tumbeliko.h include/drill.h tests/harness.h tests/trees.h tests/states.h tests/mail.h tests/reference/reference.h \
+            bench/plain.h bench/clock.h
 BUILD     = $(CC) $(CFLAGS) $(CPPFLAGS) -Iinclude -Itests $(LINK)
 
 # Is there a header $(1), and does it link with $(2)?
@@ -38,7 +41,8 @@ KNOWN = $(if $(call have,openssl/sha.h,-lcrypto),-DHAVE_OPENSSL -lcrypto) \
         $(if $(call have,isa-l/erasure_code.h,-lisal),-DHAVE_ISAL -lisal)
 
 .PHONY: help test statement lib demo line-demo drill bench growth stack soak fuzz house clean tools
-.PHONY: statement-test library-test header-test reference-test vectors-test ground-test board-test line-test drill-test examples-test stack-test
+.PHONY: statement-test library-test header-test reference-test vectors-test ground-test board-test mailbox-test line-test drill-test
+.PHONY: examples-test stack-test
 
 help:
 	@echo "make test     everything: the prover's gate, then the tests in C against the library"
@@ -58,7 +62,7 @@ help:
 	@echo "make clean    remove build/ and target/"
 	@echo
 	@echo "one part of the tests: statement-test library-test header-test reference-test vectors-test ground-test"
-	@echo "                       board-test line-test drill-test examples-test stack-test"
+	@echo "                       board-test mailbox-test line-test drill-test examples-test stack-test"
 	@echo "SEED=number   other random bytes for the tests in C"
 	@echo "RUNS=number   how many runs of lines; 20,000 if not given"
 	@echo "LIB=path      another archive"
@@ -94,21 +98,25 @@ build/ground-test: tests/ground.c $(HARNESS) $(REFERENCE) $(HEADERS) $(LIB) | bu
 	@echo "building $@ with $(LIB)"
 	@$(BUILD) tests/ground.c $(HARNESS) $(REFERENCE) $(LIB) $(LDFLAGS) -o $@
 
-build/reference-test: tests/reference/trial.c $(HARNESS) $(REFERENCE) $(HEADERS) | build $(TOOLS)
+build/reference-test: tests/reference/trial.c $(MAIL) $(HARNESS) $(REFERENCE) $(HEADERS) | build $(TOOLS)
 	@echo "building $@"
-	@$(BUILD) tests/reference/trial.c $(HARNESS) $(REFERENCE) $(LDFLAGS) -o $@
+	@$(BUILD) tests/reference/trial.c $(MAIL) $(HARNESS) $(REFERENCE) $(LDFLAGS) -o $@
 
 build/vectors-test: tests/vectors.c $(HARNESS) $(HEADERS) $(LIB) | build $(TOOLS)
 	@echo "building $@ with $(LIB)"
 	@$(BUILD) tests/vectors.c $(HARNESS) $(LIB) $(LDFLAGS) -o $@
 
-build/board-test: tests/board.c $(TREES) $(HARNESS) $(REFERENCE) $(HEADERS) $(LIB) | build $(TOOLS)
+build/board-test: tests/board.c $(STATES) $(HARNESS) $(REFERENCE) $(HEADERS) $(LIB) | build $(TOOLS)
 	@echo "building $@ with $(LIB)"
-	@$(BUILD) tests/board.c $(TREES) $(HARNESS) $(REFERENCE) $(LIB) $(LDFLAGS) -o $@
+	@$(BUILD) tests/board.c $(STATES) $(HARNESS) $(REFERENCE) $(LIB) $(LDFLAGS) -o $@
 
-build/line-test: tests/line.c $(TREES) $(HARNESS) $(REFERENCE) $(HEADERS) $(LIB) | build $(TOOLS)
+build/mailbox-test: tests/mailbox.c $(MAIL) $(STATES) $(HARNESS) $(REFERENCE) $(HEADERS) $(LIB) | build $(TOOLS)
 	@echo "building $@ with $(LIB)"
-	@$(BUILD) tests/line.c $(TREES) $(HARNESS) $(REFERENCE) $(LIB) $(LDFLAGS) -o $@
+	@$(BUILD) tests/mailbox.c $(MAIL) $(STATES) $(HARNESS) $(REFERENCE) $(LIB) $(LDFLAGS) -o $@
+
+build/line-test: tests/line.c $(MAIL) $(TREES) $(HARNESS) $(REFERENCE) $(HEADERS) $(LIB) | build $(TOOLS)
+	@echo "building $@ with $(LIB)"
+	@$(BUILD) tests/line.c $(MAIL) $(TREES) $(HARNESS) $(REFERENCE) $(LIB) $(LDFLAGS) -o $@
 
 build/drill-test: tests/drill.c $(TREES) $(HARNESS) $(REFERENCE) $(HEADERS) $(DRILL) | build $(TOOLS)
 	@echo "building $@ with $(DRILL)"
@@ -119,9 +127,9 @@ build/drill: examples/drill.c include/drill.h $(DRILL) | build $(TOOLS)
 	@$(BUILD) examples/drill.c $(DRILL) $(LDFLAGS) -o $@
 
 ifeq ($(TOOLS),)
-build/bench: bench/bench.c bench/clock.c bench/plain.c $(REFERENCE) $(HEADERS) $(LIB) | build
+build/bench: bench/bench.c bench/clock.c bench/plain.c $(MAIL) $(REFERENCE) $(HEADERS) $(LIB) | build
 	@echo "building $@ with $(LIB), and known libraries: $(or $(filter -l%,$(KNOWN)),none)"
-	@$(BUILD) $(filter -D%,$(KNOWN)) bench/bench.c bench/clock.c bench/plain.c $(REFERENCE) $(LIB) $(LDFLAGS) $(filter -l%,$(KNOWN)) -o $@
+	@$(BUILD) $(filter -D%,$(KNOWN)) bench/bench.c bench/clock.c bench/plain.c $(MAIL) $(REFERENCE) $(LIB) $(LDFLAGS) $(filter -l%,$(KNOWN)) -o $@
 else
 # The emulator's times say nothing, so it counts instructions. ISA-L has no archive, so the bench is linked dynamically.
 FETCHED = build/known/usr/lib/x86_64-linux-gnu
@@ -133,10 +141,10 @@ build/known/done: bench/known.sh | build tools
 build/count.so: bench/count.c | build
 	@gcc -O2 -Wall -Wextra -fPIC -shared -fvisibility=hidden bench/count.c -o $@
 
-build/bench: bench/bench.c bench/clock.c bench/plain.c $(REFERENCE) $(HEADERS) $(LIB) build/known/done build/count.so
+build/bench: bench/bench.c bench/clock.c bench/plain.c $(MAIL) $(REFERENCE) $(HEADERS) $(LIB) build/known/done build/count.so
 	@echo "building $@ with $(LIB), OpenSSL, BearSSL and ISA-L"
 	@$(CC) $(CFLAGS) $(CPPFLAGS) -Iinclude -Itests -isystem build/known/usr/include -isystem build/known/usr/include/x86_64-linux-gnu \
-	    -DHAVE_OPENSSL -DHAVE_BEARSSL -DHAVE_ISAL bench/bench.c bench/clock.c bench/plain.c $(REFERENCE) $(LIB) $(LDFLAGS) \
+	    -DHAVE_OPENSSL -DHAVE_BEARSSL -DHAVE_ISAL bench/bench.c bench/clock.c bench/plain.c $(MAIL) $(REFERENCE) $(LIB) $(LDFLAGS) \
 	    -L$(FETCHED) -l:libcrypto.so.3 -l:libbearssl.a -l:libisal.so.2 -o $@
 endif
 
@@ -145,26 +153,26 @@ build/growth: bench/growth.c bench/clock.c $(HEADERS) $(LIB) | build $(TOOLS)
 	@$(BUILD) bench/growth.c bench/clock.c $(LIB) $(LDFLAGS) -o $@
 
 # The search runs on this machine; the library is in it where it can be, and in the replay always.
-build/fuzz/find: fuzz/find.c $(FUZZ) fuzz/fuzz.h $(TREES) $(REFERENCE) $(HEADERS) $(if $(TOOLS),,$(LIB) $(DRILL)) | build
+build/fuzz/find: fuzz/find.c $(FUZZ) fuzz/fuzz.h $(MAIL) $(TREES) $(REFERENCE) $(HEADERS) $(if $(TOOLS),,$(LIB) $(DRILL)) | build
 	@sh fuzz/tools.sh > /dev/null
 	@echo "building $@"
 	@mkdir -p build/fuzz
 	@clang -std=c99 -Wall -Wextra -Werror -O2 -g -fsanitize=fuzzer,address,undefined -fno-sanitize-recover=undefined \
-	    $(if $(TOOLS),,-DWITH_LIBRARY) -Iinclude -Itests -Ifuzz fuzz/find.c $(FUZZ) $(TREES) $(REFERENCE) \
+	    $(if $(TOOLS),,-DWITH_LIBRARY) -Iinclude -Itests -Ifuzz fuzz/find.c $(FUZZ) $(MAIL) $(TREES) $(REFERENCE) \
 	    $(if $(TOOLS),,$(LIB) $(DRILL)) -o $@
 
-build/fuzz/replay: fuzz/replay.c $(FUZZ) fuzz/fuzz.h $(TREES) $(REFERENCE) $(HEADERS) $(LIB) $(DRILL) | build $(TOOLS)
+build/fuzz/replay: fuzz/replay.c $(FUZZ) fuzz/fuzz.h $(MAIL) $(TREES) $(REFERENCE) $(HEADERS) $(LIB) $(DRILL) | build $(TOOLS)
 	@echo "building $@ with $(LIB) and $(DRILL)"
 	@mkdir -p build/fuzz
-	@$(BUILD) -Ifuzz -DWITH_LIBRARY fuzz/replay.c $(FUZZ) $(TREES) $(REFERENCE) $(LIB) $(DRILL) $(LDFLAGS) -o $@
+	@$(BUILD) -Ifuzz -DWITH_LIBRARY fuzz/replay.c $(FUZZ) $(MAIL) $(TREES) $(REFERENCE) $(LIB) $(DRILL) $(LDFLAGS) -o $@
 
 build/fuzz/corpus: fuzz/seeds.sh
 	@sh fuzz/seeds.sh $@
 
 # Linked statically everywhere: a loader would work on the painted stack too.
-build/stack-test: tests/stack.c $(TREES) $(HARNESS) $(REFERENCE) $(HEADERS) $(LIB) | build $(TOOLS)
+build/stack-test: tests/stack.c $(MAIL) $(TREES) $(HARNESS) $(REFERENCE) $(HEADERS) $(LIB) | build $(TOOLS)
 	@echo "building $@ with $(LIB)"
-	@$(BUILD) -static tests/stack.c $(TREES) $(HARNESS) $(REFERENCE) $(LIB) $(LDFLAGS) -o $@
+	@$(BUILD) -static tests/stack.c $(MAIL) $(TREES) $(HARNESS) $(REFERENCE) $(LIB) $(LDFLAGS) -o $@
 
 build/demo: examples/ground.c $(HEADERS) $(LIB) | build $(TOOLS)
 	@echo "building $@ with $(LIB)"
@@ -204,6 +212,9 @@ ground-test: build/ground-test
 
 board-test: build/board-test
 	@$(RUN) build/board-test $(SEED)
+
+mailbox-test: build/mailbox-test
+	@$(RUN) build/mailbox-test $(SEED)
 
 line-test: build/line-test
 	@$(RUN) build/line-test $(or $(RUNS),20000) $(SEED)

@@ -1,7 +1,7 @@
 /*
  * The speed of each call, beside plain C and known libraries on the same
  * input in the same run, and of the calls of records and boards beside the
- * reference of the tests. Prints Markdown tables; each time is the best of
+ * reference of the tests; of a mailbox beside single steps, too. Prints Markdown tables; each time is the best of
  * many. Answers are compared before anything is timed.
  *
  * Libraries are used as far as they were found: HAVE_OPENSSL, HAVE_BEARSSL
@@ -15,6 +15,7 @@
 #include <string.h>
 #include <unistd.h>
 #include "clock.h"
+#include "mail.h"
 #include "plain.h"
 #include "reference/reference.h"
 #include "tumbeliko.h"
@@ -649,6 +650,128 @@ static void broadcast(bool ours)
 static void our_broadcast(void)     { broadcast(true); }
 static void other_broadcast(void)   { broadcast(false); }
 
+/* ---- a mailbox, beside single steps of its items and beside the reference */
+
+#define SHORT 60                /* bytes of a short message */
+
+static uint8_t box[20000], answers[255], other_answers[255], vote[39], other_vote[39], after[STATE];
+static size_t box_len, items;
+static uint32_t put_out;        /* bytes of echo and vote, and the message's */
+
+static void our_mailbox(void)
+{
+    tumbeliko_mailed did;
+
+    memcpy(states[0], base, 4608);
+    did = tumbeliko_mailbox(states[0], state_len(), box, box_len, answers, sizeof answers, out, sizeof out,
+                            vote, sizeof vote, back, sizeof back);
+    kept = did.number;
+    put_out = did.echo_length + did.vote_length + did.message_length;
+}
+
+static void our_single_steps(void)
+{
+    const uint8_t *at = box + 2;
+
+    memcpy(states[0], base, 4608);
+    put_out = 0;
+    for (size_t i = 0; i < items; i++) {
+        uint8_t by;
+        size_t len;
+        const uint8_t *bytes = read_item(at, &by, &len);
+        tumbeliko_stepped did = our_step_of(0, by, bytes, len);
+
+        other_answers[i] = (uint8_t)did.number;
+        put_out += did.record_length + did.message_length;
+        at = bytes + len;
+    }
+}
+
+static void other_mailbox(void)
+{
+    ref_mailed did;
+
+    memcpy(&boards[0], other_base, offsetof(ref_board, fragment));
+    did = ref_mailbox(&boards[0], state_len(), box, box_len, other_answers, sizeof other_answers,
+                      other_out, sizeof other_out, other_vote, sizeof other_vote, other_back, sizeof other_back);
+    kept = did.number;
+    put_out = did.echo_length + did.vote_length + did.message_length;
+}
+
+/* All three must have done the same: answers, state, lengths. */
+static void compare_mailboxes(const char *what)
+{
+    uint32_t ours;
+
+    our_mailbox();
+    ours = put_out;
+    must(kept == 0, what);
+    memcpy(after, states[0], state_len());
+    our_single_steps();
+    must(put_out == ours && memcmp(answers, other_answers, items) == 0 && memcmp(after, states[0], state_len()) == 0, what);
+    other_mailbox();
+    must(kept == 0 && put_out == ours && memcmp(answers, other_answers, items) == 0
+         && memcmp(vote, other_vote, sizeof vote) == 0 && memcmp(back, other_back, SHORT) == 0, what);
+}
+
+/* Times the mailbox in `box` at a fresh board. `wanted` is the most that it may take of what single steps take. */
+static void mailbox_row(const char *what, const char *wanted)
+{
+    void (*const calls[3])(void) = { our_mailbox, our_single_steps, other_mailbox };
+    double us[3] = { 0, 0, 0 };
+
+    items = (size_t)box[0] << 8 | box[1];
+    our_start();
+    ref_start(n, t, 1, LONGEST, 1, &boards[0], state_len());
+    memcpy(base, states[0], 4608);
+    memcpy(other_base, &boards[0], offsetof(ref_board, fragment));
+    compare_mailboxes(what);
+    best(calls, us);
+    printf("| %s, n %u | %zu | %.2f | %.2f | %.2f | %s | %.2f | %.2f |\n", what, n, items, us[0], us[1], us[0] / us[1],
+           wanted, us[2], us[0] / us[2]);
+    fflush(stdout);
+    box_len = empty_mailbox(box);
+}
+
+/* Puts a record of a short message into the mailbox. */
+static void post_one(uint32_t kind, uint32_t board)
+{
+    size_t len = tumbeliko_send(n, t, 1, LONGEST, message, SHORT, board, record, sizeof record).length;
+    const uint8_t *bytes = record;
+
+    record[0] = (uint8_t)kind;
+    if (kind == 3) {
+        len = tumbeliko_write_record(3, record + 3, 32, root, 0, root, 0, out, sizeof out).length;
+        bytes = out;
+    }
+    box_len = add_item(box, box_len, (uint8_t)board, bytes, len);
+}
+
+static void post_all(uint32_t kind)
+{
+    for (uint32_t board = 1; board <= n; board++)
+        post_one(kind, board);
+}
+
+static void mailbox_rows(void)
+{
+    printf("\n| mailbox | items | tumbeliko %s | single steps %s | ratio | wanted | reference %s | ratio |\n", clock_unit(),
+           clock_unit(), clock_unit());
+    printf("|---|---:|---:|---:|---:|---:|---:|---:|\n");
+    turns = 25;
+    box_len = empty_mailbox(box);
+    set_table(64, 21);
+    post_all(3);
+    mailbox_row("a vote of each board", "0.70");
+    set_table(7, 2);
+    post_all(3);
+    post_all(3);
+    mailbox_row("a vote of each board, and once more", "0.50");
+    post_all(2);
+    post_all(3);
+    mailbox_row("echo and vote of each board, 60 B, delivering", "-");
+}
+
 static void board_rows(void)
 {
     static const uint32_t tables_of[][2] = { { 7, 2 }, { 64, 21 } };
@@ -689,6 +812,7 @@ static void board_rows(void)
         snprintf(input, sizeof input, "n %u, 16,384 B, %u steps", n, n + 2 * n * n);
         pair_row("whole broadcast", input, our_broadcast, other_broadcast);
     }
+    mailbox_rows();
 }
 
 int main(int argc, char **argv)

@@ -1,7 +1,8 @@
-/* The calls of the board: records, start, send, and runs of steps. */
+/* The calls of the board: records, start, send, and runs of steps and of mailboxes. */
 
 #include <string.h>
 #include "fuzz.h"
+#include "mail.h"
 #include "trees.h"
 #ifdef WITH_LIBRARY
 #include "tumbeliko.h"
@@ -170,7 +171,7 @@ void try_start(void)
     start_both(b, own);
 }
 
-/* What stands in a buffer that a step may write: one draw, as a run has many steps. */
+/* What stands in a buffer that a call may write: one draw, as a run has many calls. */
 static void fill(uint8_t *old, uint8_t *new, size_t len)
 {
     uint8_t drawn = draw_byte();
@@ -233,18 +234,26 @@ static size_t draw_tree_record(uint32_t from)
     return drawn > 225 ? damage(record, len, REF_OUT + 100) : len;
 }
 
-/* Hands one record over: mostly from the next board in turn, so that short inputs reach the quorums. */
-static void one_step(uint32_t turn)
+/* The next record to hand over: mostly from the next board in turn, so that short inputs reach the quorums. */
+static size_t draw_next(uint32_t turn, uint32_t *from)
 {
-    uint32_t from = 1 + turn % board.table.n;
     uint8_t drawn = draw_byte();
     size_t len;
 
+    *from = 1 + turn % board.table.n;
     if (drawn > 128)
-        from = drawn < 240 ? 1 + drawn % board.table.n : draw_number();
-    len = draw_tree_record(from);
+        *from = drawn < 240 ? 1 + drawn % board.table.n : draw_number();
+    len = draw_tree_record(*from);
     if (record[0] == SEND && drawn < 200)
-        from = board.table.sender;
+        *from = board.table.sender;
+    return len;
+}
+
+static void one_step(uint32_t turn)
+{
+    uint32_t from;
+    size_t len = draw_next(turn, &from);
+
     step_both(from, len);
 }
 
@@ -271,6 +280,83 @@ void try_steps(void)
         return;
     for (uint32_t turn = 0; turn < STEPS && more(); turn++)
         one_step(turn);
+}
+
+/* ---- mailboxes */
+
+#define ANSWERS 300
+
+static uint8_t box[ROOM], old_answers[ANSWERS], new_answers[ANSWERS], old_vote[100], new_vote[100];
+static size_t box_len, posted;
+
+/* Lengths of the buffers beside the state are mostly right. */
+static void mail_both(void)
+{
+    size_t answers_len = draw_length(posted), echo_len = draw_length(REF_OUT), vote_len = draw_length(REF_VOTE);
+    size_t delivery_len = draw_length(board.table.longest % 65536);
+    ref_mailed right;
+
+    fill(old_answers, new_answers, answers_len);
+    fill(old_out, new_out, echo_len);
+    fill(old_vote, new_vote, vote_len);
+    fill(old_delivery, new_delivery, delivery_len);
+    right = ref_mailbox(&board, state_len, box, box_len, new_answers, answers_len, new_out, echo_len,
+                        new_vote, vote_len, new_delivery, delivery_len);
+    note(right.number);
+    note_delivery(right.delivery);
+    SAME(right.number != 0 || ref_sound(&board));
+#ifdef WITH_LIBRARY
+    uint8_t *lent = lend(0, state, state_len);
+    tumbeliko_mailed got = tumbeliko_mailbox(lent, state_len, lend(1, box, box_len), box_len,
+                                             lend(2, old_answers, answers_len), answers_len,
+                                             lend(3, old_out, echo_len), echo_len, lend(4, old_vote, vote_len), vote_len,
+                                             lend(5, old_delivery, delivery_len), delivery_len);
+
+    SAME(got.number == right.number && got.echo_length == right.echo_length && got.vote_length == right.vote_length);
+    SAME(got.delivery == right.delivery && got.message_length == right.message_length);
+    SAME(right.number == 0 ? same_board(lent) : holds(0, state));
+    SAME(holds(1, box) && holds(2, new_answers) && holds(3, new_out) && holds(4, new_vote) && holds(5, new_delivery));
+    memcpy(state, lent, state_len);
+#endif
+}
+
+static void post(uint32_t from, size_t len)
+{
+    if (box_len + 3 + len > ROOM || posted > REF_ITEMS)
+        return;
+    box_len = add_item(box, box_len, (uint8_t)from, record, len);
+    posted++;
+}
+
+/* A mailbox of up to so many records, at times filled up with empty ones to its most or above, at times damaged.
+ * Answers how many it was meant to have. */
+static uint32_t one_mailbox(uint32_t turn, uint32_t most)
+{
+    uint32_t wanted = random_below(most + 1), filled = draw_byte();
+
+    box_len = empty_mailbox(box);
+    posted = 0;
+    for (uint32_t i = 0; i < wanted; i++) {
+        uint32_t from;
+        size_t len = draw_next(turn + i, &from);
+
+        post(from, len);
+    }
+    for (uint32_t i = 0; filled > 250 && i <= REF_ITEMS && posted < REF_ITEMS - 253 + filled; i++)
+        post(i, 0);
+    box_len = damage(box, box_len, ROOM);
+    mail_both();
+    return wanted;
+}
+
+void try_mailboxes(void)
+{
+    uint32_t turn = 0;
+
+    if (!start_drawn())
+        return;
+    for (int calls = 0; calls < 30 && more(); calls++)
+        turn += one_mailbox(turn, 24);
 }
 
 /* ---- states that no run reaches */
@@ -316,7 +402,7 @@ static size_t draw_place(void)
     }
 }
 
-/* Changes a few bits or bytes of a state of some run, then takes steps over it. */
+/* Changes a few bits or bytes of a state of some run, then takes steps and mailboxes over it. */
 void try_damaged_state(void)
 {
     if (!start_drawn())
@@ -335,6 +421,9 @@ void try_damaged_state(void)
     for (uint32_t turn = 0; turn < 4; turn++) {
         uint32_t from = 1 + random_below(board.table.n);
 
-        step_both(from, draw_tree_record(from));
+        if (draw_byte() % 4 == 1 && board.table.n > 0)
+            one_mailbox(from, 4);
+        else
+            step_both(from, draw_tree_record(from));
     }
 }

@@ -8,13 +8,14 @@ static const struct {
     { "hash", try_hash }, { "path check", try_path }, { "encode", try_encode }, { "rebuild", try_rebuild },
     { "read block", try_read_block }, { "read record", try_read_record }, { "damaged record", try_damaged_record },
     { "write record", try_write_record }, { "send", try_send }, { "start", try_start }, { "step", try_steps },
-    { "step, damaged state", try_damaged_state }, { "drill", try_drill },
+    { "step, damaged state", try_damaged_state }, { "drill", try_drill }, { "mailbox", try_mailboxes },
 };
 
 #define CALLS (sizeof calls / sizeof *calls)
+#define NUMBERS 17              /* the refusals' numbers are below this */
 
 static size_t running;
-static unsigned long counts[CALLS][16], deliveries[3];
+static unsigned long counts[CALLS][NUMBERS], deliveries[3];
 
 void differs(const char *fact)
 {
@@ -23,7 +24,7 @@ void differs(const char *fact)
 
 void note(uint32_t number)
 {
-    counts[running][number & 15]++;
+    counts[running][number % NUMBERS]++;
 }
 
 void note_delivery(uint32_t delivery)
@@ -43,10 +44,10 @@ void show_counts(void)
     for (size_t i = 0; i < CALLS; i++) {
         unsigned long all = 0;
 
-        for (int number = 0; number < 16; number++)
+        for (int number = 0; number < NUMBERS; number++)
             all += counts[i][number];
         printf("  %-20s %9lu calls", calls[i].name, all);
-        for (int number = 0; number < 16; number++)
+        for (int number = 0; number < NUMBERS; number++)
             if (counts[i][number] > 0)
                 printf("  %d: %lu", number, counts[i][number]);
         printf("\n");

@@ -7,7 +7,7 @@
  *   fuzz.c      which call an input stands for; what is counted
  *   drawn.c     arguments drawn from the input's bytes; buffers between inaccessible pages
  *   ground.c    hash, path check, encode, rebuild, read block
- *   board.c     records, start, send, step
+ *   board.c     records, start, send, step, mailbox
  *   drill.c     the drill
  *   find.c      libFuzzer's entry: finds inputs, guided by the reference's coverage
  *   replay.c    hands found inputs, and changed ones, to both
@@ -68,6 +68,7 @@ void try_send(void);
 void try_start(void);
 void try_steps(void);
 void try_damaged_state(void);
+void try_mailboxes(void);
 
 /* ---- drill.c: a whole drill */
 

@@ -8,8 +8,8 @@ root=0123456789abcdef0123456789abcdef
 printf "\\005\\003\\000\\040$root\\000\\000\\000\\000" > "$to/seed-vote"
 printf "\\005\\001\\000\\040$root\\000\\000\\000\\001x" > "$to/seed-send"
 printf "\\005\\002\\000\\040$root\\000\\001$root\\000\\002xy" > "$to/seed-echo"
-# Longer ones for every call: the runs of steps need many draws. The bytes are those of a small generator.
-for call in 0 1 2 3 4 5 6 7 8 9 10 10 10 10 10 10 11 11 11 11; do
+# Longer ones for every call: the runs of steps and of mailboxes need many draws. The bytes are those of a small generator.
+for call in 0 1 2 3 4 5 6 7 8 9 10 10 10 10 10 10 11 11 11 11 13 13 13 13; do
     seed=$((${seed:-0} + 1))
     awk -v call=$call -v sum=$seed 'BEGIN {
         line = sprintf("%o", call)

@@ -110,9 +110,18 @@ extern "C" {
 /* A board's state. */
 #define TUMBELIKO_STATE_BYTES(n, s_max) (4608 + (size_t)(n) * (size_t)(s_max))
 
-/* An outgoing record. Every call that puts out a record needs all of it,
- * also for a vote, which has 39 bytes. */
+/* An outgoing record. Every call that has one buffer for it needs all of
+ * this, also for a vote. */
 #define TUMBELIKO_OUT_BYTES     16619
+
+/* A vote, where it has a buffer of its own. */
+#define TUMBELIKO_VOTE_BYTES    39
+
+/* The most items of a mailbox, and a mailbox of so many whose records have
+ * so many bytes in all. */
+#define TUMBELIKO_ITEMS_MAX     255
+#define TUMBELIKO_MAILBOX_BYTES(items, record_bytes) \
+    (2 + 3 * (size_t)(items) + (size_t)(record_bytes))
 
 /* A buffer for a message or a delivery needs `longest` bytes. */
 
@@ -137,6 +146,8 @@ extern "C" {
 #define TUMBELIKO_LONG_MESSAGE    13  /* message longer than L */
 /* 14 is a number of the drill program; no call of this header answers it. */
 #define TUMBELIKO_LONG_HASH       15  /* more than 65,536 bytes to hash */
+#define TUMBELIKO_BAD_MAILBOX     16  /* mailbox not of the form of a mailbox, or
+                                         fewer answer bytes than items */
 
 /* ====================================================================
  * Kinds of record, deliveries, places in a record
@@ -183,6 +194,13 @@ typedef struct {
 typedef struct {
     uint32_t number, record_length, delivery, message_length;
 } tumbeliko_stepped;
+
+/* A refusal number, or 0 and what a whole mailbox leaves: the lengths of
+ * the echo and of the vote put out (0 for none), the delivery and the
+ * length of the message. */
+typedef struct {
+    uint32_t number, echo_length, vote_length, delivery, message_length;
+} tumbeliko_mailed;
 
 /* ====================================================================
  * Hash
@@ -391,7 +409,7 @@ uint32_t tumbeliko_start(uint32_t n, uint32_t t, uint32_t sender, uint32_t longe
  *
  * Refusals, in this order:
  *   2    state below 4,608 bytes
- *   3    state not sound (never after a start and steps alone)
+ *   3    state not sound (never after a start, steps and mailboxes alone)
  *   2    state, out or delivery shorter than above
  *   4    from not in 1..n
  *   5    record not of the form (see tumbeliko_read_record)
@@ -417,6 +435,73 @@ tumbeliko_stepped tumbeliko_step(uint8_t *state, size_t state_len, uint32_t from
                                  const uint8_t *record, size_t record_len,
                                  uint8_t *out, size_t out_len,
                                  uint8_t *delivery, size_t delivery_len);
+
+/* ====================================================================
+ * Mailbox
+ *
+ * Hands over all the records that a poll found, in one call: the same as a
+ * step for each, in the order in which they stand, and cheaper, since the
+ * state and the buffers are looked at once and not for each record.
+ *
+ * A mailbox is a count of items (two bytes, high byte first; 0 to 255) and
+ * then, for each item, the number of the board that it comes from (one
+ * byte), the length of its record (two bytes, high byte first) and the
+ * record. Nothing follows. So these 89 bytes are a vote from board 3, a
+ * record of no bytes from board 9 and a vote from board 7:
+ *
+ *   00 03
+ *   03  00 27  03 00 20 ..(39 bytes in all)
+ *   09  00 00
+ *   07  00 27  03 00 20 ..(39 bytes in all)
+ *
+ *   state       TUMBELIKO_STATE_BYTES(n, s_max); read and written
+ *   mailbox     TUMBELIKO_MAILBOX_BYTES(items, record_bytes): mailbox_len
+ *               is the length of the mailbox itself, not that of a longer
+ *               buffer around it; read
+ *   answers     one byte for each item; written
+ *   echo        TUMBELIKO_OUT_BYTES; written if an echo is put out
+ *   vote        TUMBELIKO_VOTE_BYTES; written if a vote is put out
+ *   delivery    longest bytes; written if a message is delivered
+ *
+ * n, s_max and longest are those of the state's start. echo, vote and
+ * delivery are needed in every call, also for a mailbox of no items.
+ *
+ * Refusals of the whole call, in this order:
+ *   2    state below 4,608 bytes
+ *   3    state not sound (never after a start, steps and mailboxes alone)
+ *   2    state, echo, vote or delivery shorter than above
+ *   16   mailbox below 2 bytes, its count above 255, an item that is not
+ *        whole, bytes after the last item; or answers_len below the count
+ * 16 is decided before any item is looked at: no item of a refused mailbox
+ * has been taken.
+ *
+ * An item that is refused is no refusal of the call. Its number is its
+ * answer, the others go on, and the call's number is 0 even if each item
+ * was refused. An item's answer is the number that tumbeliko_step would
+ * answer in its turn, 0 or 4 to 9: 4 for a board byte that is 0 or above
+ * n, 5 for bytes that are no record (as the second item above), and so on.
+ *
+ * Result: number 0, and
+ *   echo_length      length of the echo put out, 0 for none
+ *   vote_length      length of the vote put out, 39, or 0 for none
+ *   delivery         0 none, 1 message, 2 void, as in a step
+ *   message_length   of the message delivered; 0 with none and void
+ * A board puts out at most one echo and one vote in all, and delivers
+ * once, so one call has room for all of it. Echo and vote are meant for
+ * all n boards, this one too.
+ *
+ * Afterwards state is the board's new state, answer byte i is that of item
+ * i (both from 0), the first echo_length bytes of echo are the echo, the
+ * first vote_length bytes of vote are the vote, and the first
+ * message_length bytes of delivery are the message; bytes of these four
+ * buffers beyond these stay.
+ */
+tumbeliko_mailed tumbeliko_mailbox(uint8_t *state, size_t state_len,
+                                   const uint8_t *mailbox, size_t mailbox_len,
+                                   uint8_t *answers, size_t answers_len,
+                                   uint8_t *echo, size_t echo_len,
+                                   uint8_t *vote, size_t vote_len,
+                                   uint8_t *delivery, size_t delivery_len);
 
 /* ====================================================================
  * Send

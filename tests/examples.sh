@@ -30,6 +30,15 @@ holds() {
     say "line $*" $status
 }
 
+# saves ARGUMENT ..: the same with mailboxes: the table tells the calls made, those saved, and that together they are the records
+saves() {
+    holds "$@"
+    sed -n -e 's/^  handed over *\([0-9]*\) records:.*/\1/p' -e 's/^  mailboxes *\([0-9]*\) calls instead of \([0-9]*\): \([0-9]*\) saved$/\1 \2 \3/p' \
+        build/line-demo.log | tr '\n' ' ' > build/line-demo.calls
+    read -r records calls instead saved < build/line-demo.calls || true
+    [ "$records" = "$instead" ] && [ "$saved" -gt 0 ] && [ $((calls + saved)) -eq "$records" ] && say "calls saved: $*" 0 || say "calls saved: $*" 1
+}
+
 # draws ARGUMENT ..: the run's picture is whole and well formed, and has arrows
 draws() {
     rm -f build/test.svg
@@ -86,22 +95,41 @@ for seed in 1 2 3 4 5 6 7 8 9; do
     holds 3 --seed $seed --breaks 2:lies,3:lies --loss 30
 done
 
+saves 2 --seed 10 --poll 10 --breaks 1:fails,4:lies build/numbers
+saves 2 --seed 1 --poll 10 --breaks 1:garbles,4:lies build/numbers
+saves 3 --seed 1 --poll 1000 --breaks 2:lies build/numbers
+holds 2 --seed 1 --poll 1000 --breaks 1:silent,3:fails
+saves 3 --seed 1 --poll 25 --loss 50 --breaks 5:fails,6:lies build/numbers
+saves 3 --seed 1 --poll 40 -n 64 --breaks 2:lies,3:lies,64:fails
+holds 3 --seed 1 --poll 1 -n 1 /dev/null
+for seed in 1 2 3 4 5 6 7 8 9; do
+    holds 2 --seed $seed --poll $seed --breaks 1:lies,2:lies
+    holds 3 --seed $seed --poll $((10 * seed)) --breaks 2:lies,3:lies --loss 30
+done
+holds 3 --seed 1 --breaks none
+grep -q '^  mailboxes' build/line-demo.log && say "no mailboxes, no word of them" 1 || say "no mailboxes, no word of them" 0
+
 draws --seed 10 --breaks 1:fails,4:lies build/numbers
 draws --seed 1 --breaks 1:garbles,4:lies build/numbers
 draws --seed 3 -n 13 --loss 40 --breaks none
 draws --seed 3 -n 20 --breaks 1:splits,2:silent
+draws --seed 3 --poll 15 --breaks 4:lies
 odd='build/a<b>&"c.txt'
 echo odd > "$odd"
 draws --seed 1 "$odd"
 rm -f "$odd"
 
-line --help > build/line-demo.log && grep -q '^usage: ' build/line-demo.log && say help 0 || say help 1
+line --help > build/line-demo.log && grep -q '^usage: ' build/line-demo.log && grep -q '  --poll MS  ' build/line-demo.log && say help 0 || say help 1
 refuses 'there must be 1 to 64 boards' -n 0
 refuses 'there must be 1 to 64 boards' -n 65
 refuses '3t must be below n' -n 6 -t 2
 refuses 'a number of at most nine digits must follow: -n' -n seven
 refuses 'something must follow: --seed' --seed
 refuses 'at most 90 of 100' --loss 91
+refuses 'there must be 1 to 1000 ms from poll to poll' --poll 0
+refuses 'there must be 1 to 1000 ms from poll to poll' --poll 1001
+refuses 'a number of at most nine digits must follow: --poll' --poll often
+refuses 'something must follow: --poll' --poll
 refuses 'no such option: --sed' --sed 1
 refuses 'not NUMBER:HOW: 3' --breaks 3
 refuses 'no such board: 8:lies' --breaks 8:lies

@@ -4,9 +4,11 @@
  * Up to t boards break the rules: they send well-formed lies under trees of
  * their own making, different ones to different boards, other boards'
  * records, cut, grown and damaged ones, and random bytes. Records are lost,
- * repeated and handed over in any order. After every step the receiver's
+ * repeated and handed over in any order, one by one by a step, and in a
+ * third of the runs now and then several at once by a mailbox, which must
+ * leave what steps would leave. After every call the receiver's
  * state must be sound, by the reference's check of its bytes, and nothing
- * but what the step may write may be written. The boards that keep the rules
+ * but what the call may write may be written. The boards that keep the rules
  * must agree; deliver nothing but the message of a sender that keeps them;
  * and once all records between them have been handed over, all have
  * delivered if one of them has or if the sender keeps the rules.
@@ -18,6 +20,7 @@
 #include <stdlib.h>
 #include <string.h>
 #include "harness.h"
+#include "mail.h"
 #include "reference/reference.h"
 #include "trees.h"
 #include "tumbeliko.h"
@@ -33,12 +36,14 @@ enum { OUTPUT = 8, DONE = 9 };  /* where a state has these flags */
 #define STATE       (REF_STATE_HEAD + 3 * (LONGEST + 4) + BOARDS)
 #define BEYOND      64          /* bytes after a state that must stay */
 #define GROVE       4
+#define MOST_MAIL   40          /* items of a mailbox; none has more than LONGEST + 400 bytes, so all have room */
 #define RUNS        20000
 #define PROGRESS    2500
 
 /* ---- what is counted */
 
 static unsigned long runs_wanted = RUNS, runs, steps, messages, voids, silent, refusals[16], accepted[4];
+static unsigned long mailboxes, mailed, with_both, with_delivery;       /* mailboxes, their items, what came of them */
 
 /* ---- one run */
 
@@ -47,6 +52,7 @@ static uint64_t liars;
 static uint8_t message[LONGEST];
 static size_t message_len;
 static tree trees[GROVE];       /* the message's first, then others */
+static bool polls;              /* boards take several records at once now and then */
 static bool wrong;              /* something in this run was not as it must be */
 
 typedef struct {
@@ -106,24 +112,61 @@ static void hand_in(uint32_t from, uint32_t to, const uint8_t *bytes, size_t len
     post[waiting++] = one;
 }
 
-/* ---- what a step must leave */
+/* ---- what a call must leave */
 
-static uint8_t was_out[REF_OUT], was_delivery[LONGEST];
+static uint8_t was_out[REF_OUT], was_vote[REF_VOTE], was_answers[MOST_MAIL], was_delivery[LONGEST];
 
-static void note_delivery(uint32_t own, tumbeliko_stepped did, const uint8_t *bytes)
+/* The number that a record got from a board in the state `before`. */
+static void note_answer(letter one, const uint8_t *before, uint32_t number)
+{
+    CHECK(held(number == 0 || (number >= 5 && number <= 9)));
+    refusals[number & 15]++;
+    if (one.genuine) {
+        bool late = before[DONE] != 0 || (one.bytes[0] == SEND && before[OUTPUT] != 0);
+
+        CHECK(held(number == (late ? 8u : one.handed ? 9u : 0u)));
+    }
+    if (number == 0)
+        accepted[one.bytes[0] & 3]++;
+}
+
+static void note_state(const member *m, const uint8_t *before)
+{
+    static ref_board board;
+
+    CHECK(held(memcmp(m->state + m->needed, before + m->needed, BEYOND) == 0));
+    ref_decode(m->state, m->needed, &board);
+    CHECK(held(ref_sound(&board)));
+}
+
+/* Hands in a record that a board has put out. */
+static void note_record(uint32_t own, const uint8_t *out, size_t len)
+{
+    member *m = &line[own - 1];
+    const uint8_t *bytes = keep(out, len);
+
+    CHECK(held(ref_read_record(out, len).number == 0 && (out[0] == ECHO || out[0] == VOTE)));
+    CHECK(held(!(m->put_out >> (out[0] & 3) & 1)));     /* one echo and one vote at most */
+    if (!(m->put_out >> (out[0] & 3) & 1))
+        for (uint32_t to = 1; to <= b.n; to++)
+            hand_in(own, to, bytes, len, true);
+    m->put_out |= 1u << (out[0] & 3);
+}
+
+static void note_delivery(uint32_t own, uint32_t delivery, uint32_t length, const uint8_t *bytes)
 {
     member *m = &line[own - 1];
 
     CHECK(held(m->outcome == NONE));                    /* a board delivers once */
-    m->outcome = did.delivery;
-    m->length = did.message_length <= b.longest ? did.message_length : 0;
+    m->outcome = delivery;
+    m->length = length <= b.longest ? length : 0;
     memcpy(m->delivered, bytes, m->length);
-    if (did.delivery == MESSAGE)
+    if (delivery == MESSAGE)
         messages++;
     else
         voids++;
-    CHECK(held(did.delivery == MESSAGE || did.delivery == VOID));
-    CHECK(held(did.message_length <= b.longest && (did.delivery == MESSAGE || did.message_length == 0)));
+    CHECK(held(delivery == MESSAGE || delivery == VOID));
+    CHECK(held(length <= b.longest && (delivery == MESSAGE || length == 0)));
     for (uint32_t i = 1; i <= b.n; i++)                 /* agreement */
         if (!lies(i) && line[i - 1].outcome != NONE)
             CHECK(held(line[i - 1].outcome == m->outcome && line[i - 1].length == m->length
@@ -133,11 +176,16 @@ static void note_delivery(uint32_t own, tumbeliko_stepped did, const uint8_t *by
                    && memcmp(m->delivered, message, message_len) == 0));
 }
 
+/* Are the bytes of a buffer beyond the first `used` as they were? */
+static bool stays(const uint8_t *bytes, const uint8_t *was, size_t used, size_t len)
+{
+    return memcmp(bytes + used, was + used, len - used) == 0;
+}
+
 /* Hands the record over, and hands in what the receiver puts out. */
 static void take(letter one)
 {
     static uint8_t before[STATE + BEYOND];
-    static ref_board board;
     member *m = &line[one.to - 1];
     tumbeliko_stepped did;
     uint8_t *record, *out, *delivery;
@@ -148,41 +196,103 @@ static void take(letter one)
     delivery = lend(2, was_delivery, b.longest);
     did = tumbeliko_step(m->state, m->len, one.from, record, one.len, out, REF_OUT, delivery, b.longest);
     steps++;
-    CHECK(held(did.number == 0 || (did.number >= 5 && did.number <= 9)));
-    refusals[did.number & 15]++;
-    CHECK(held(memcmp(m->state + m->needed, before + m->needed, BEYOND) == 0));
     CHECK(held(holds(0, one.bytes)));
     CHECK(held(did.record_length <= REF_OUT && did.message_length <= b.longest));
     if (did.record_length > REF_OUT || did.message_length > b.longest)
         return;
-    CHECK(held(memcmp(out + did.record_length, was_out + did.record_length, REF_OUT - did.record_length) == 0));
-    CHECK(held(memcmp(delivery + did.message_length, was_delivery + did.message_length,
-                      b.longest - did.message_length) == 0));
-    ref_decode(m->state, m->needed, &board);
-    CHECK(held(ref_sound(&board)));
-    if (one.genuine) {
-        bool late = before[DONE] != 0 || (one.bytes[0] == SEND && before[OUTPUT] != 0);
-
-        CHECK(held(did.number == (late ? 8u : one.handed ? 9u : 0u)));
-    }
+    CHECK(held(stays(out, was_out, did.record_length, REF_OUT)));
+    CHECK(held(stays(delivery, was_delivery, did.message_length, b.longest)));
+    note_state(m, before);
+    note_answer(one, before, did.number);
     if (did.number != 0) {
         CHECK(held(did.record_length == 0 && did.delivery == NONE && did.message_length == 0));
         CHECK(held(memcmp(m->state, before, m->needed) == 0));
         return;
     }
-    accepted[one.bytes[0] & 3]++;
-    if (did.record_length > 0) {
-        const uint8_t *bytes = keep(out, did.record_length);
-
-        CHECK(held(ref_read_record(out, did.record_length).number == 0 && (out[0] == ECHO || out[0] == VOTE)));
-        CHECK(held(!(m->put_out >> (out[0] & 3) & 1))); /* one echo and one vote at most */
-        if (!(m->put_out >> (out[0] & 3) & 1))
-            for (uint32_t to = 1; to <= b.n; to++)
-                hand_in(one.to, to, bytes, did.record_length, true);
-        m->put_out |= 1u << (out[0] & 3);
-    }
+    if (did.record_length > 0)
+        note_record(one.to, out, did.record_length);
     if (did.delivery != NONE)
-        note_delivery(one.to, did, delivery);
+        note_delivery(one.to, did.delivery, did.message_length, delivery);
+}
+
+/* ---- the same by a mailbox */
+
+/* What a mailbox left in the buffers lent to it. */
+typedef struct {
+    const uint8_t *answers, *echo, *vote, *delivery;
+} left_in;
+
+/* Takes the same records one by one, from the state before the mailbox:
+ * what comes of each must be what the mailbox said and left. */
+static void compare_with_steps(const letter *mail, size_t count, uint8_t *state, tumbeliko_mailed did, left_in left)
+{
+    static uint8_t out[REF_OUT], delivery[LONGEST];
+    const member *m = &line[mail[0].to - 1];
+    tumbeliko_mailed sum = { 0, 0, 0, 0, 0 };
+
+    for (size_t i = 0; i < count; i++) {
+        tumbeliko_stepped alone;
+
+        note_answer(mail[i], state, left.answers[i]);
+        alone = tumbeliko_step(state, m->len, mail[i].from, mail[i].bytes, mail[i].len, out, REF_OUT,
+                               delivery, b.longest);
+        CHECK(held(alone.number == left.answers[i]));
+        if (alone.record_length > 0 && out[0] == ECHO) {
+            sum.echo_length = alone.record_length;
+            CHECK(held(memcmp(out, left.echo, alone.record_length) == 0));
+        } else if (alone.record_length > 0) {
+            sum.vote_length = alone.record_length;
+            CHECK(held(memcmp(out, left.vote, REF_VOTE) == 0));
+        }
+        sum.delivery += alone.delivery;
+        sum.message_length += alone.message_length;
+    }
+    CHECK(held(memcmp(&sum, &did, sizeof sum) == 0));
+    CHECK(held(memcmp(delivery, left.delivery, did.message_length) == 0));
+    CHECK(held(memcmp(state, m->state, m->needed) == 0));
+}
+
+/* Hands records over to one board, all at once. */
+static void take_mailbox(const letter *mail, size_t count)
+{
+    static uint8_t before[STATE + BEYOND], box[ROOM];
+    uint32_t own = mail[0].to;
+    member *m = &line[own - 1];
+    tumbeliko_mailed did;
+    uint8_t *mailbox, *answers, *echo, *vote, *delivery;
+    size_t len = empty_mailbox(box);
+
+    for (size_t i = 0; i < count; i++)
+        len = add_item(box, len, (uint8_t)mail[i].from, mail[i].bytes, mail[i].len);
+    memcpy(before, m->state, m->needed + BEYOND);
+    mailbox = lend(0, box, len);
+    answers = lend(1, was_answers, count);
+    echo = lend(2, was_out, REF_OUT);
+    vote = lend(3, was_vote, REF_VOTE);
+    delivery = lend(4, was_delivery, b.longest);
+    did = tumbeliko_mailbox(m->state, m->len, mailbox, len, answers, count, echo, REF_OUT, vote, REF_VOTE,
+                            delivery, b.longest);
+    steps += count;
+    mailboxes++;
+    mailed += count;
+    CHECK(held(did.number == 0));
+    CHECK(held(holds(0, box)));
+    CHECK(held(did.echo_length <= REF_OUT && did.message_length <= b.longest));
+    CHECK(held(did.vote_length == 0 || did.vote_length == REF_VOTE));
+    if (did.number != 0 || did.echo_length > REF_OUT || did.vote_length > REF_VOTE || did.message_length > b.longest)
+        return;
+    CHECK(held(stays(echo, was_out, did.echo_length, REF_OUT) && stays(vote, was_vote, did.vote_length, REF_VOTE)));
+    CHECK(held(stays(delivery, was_delivery, did.message_length, b.longest)));
+    note_state(m, before);
+    compare_with_steps(mail, count, before, did, (left_in){ answers, echo, vote, delivery });
+    with_both += did.echo_length > 0 && did.vote_length > 0;
+    with_delivery += did.delivery != NONE;
+    if (did.echo_length > 0)
+        note_record(own, echo, did.echo_length);
+    if (did.vote_length > 0)
+        note_record(own, vote, did.vote_length);
+    if (did.delivery != NONE)
+        note_delivery(own, did.delivery, did.message_length, delivery);
 }
 
 /* ---- those who break the rules */
@@ -299,30 +409,87 @@ static void grow_trees(void)
 
 /* ---- the run */
 
-/* Hands over what is waiting, in any order, until nothing waits. While
- * records may be lost, those of a kind or to a board are lost more often. */
+/* How records are lost: those of a kind and to a board more often. */
+static struct {
+    bool losing;
+    uint32_t kind, starved, loss;
+} weather;
+
+/* Takes a record from those on their way. Is it handed over, or lost? */
+static bool arrives(size_t pick, letter *one)
+{
+    bool often, lost;
+
+    *one = post[pick];
+    often = weather.losing && (one->to == weather.starved || (one->len > 0 && one->bytes[0] == weather.kind));
+    lost = random_below(100) < (often ? 80 : weather.loss);
+    waiting--;
+    post[pick] = post[waiting];
+    post[waiting] = *one;
+    if (!lost)
+        post[waiting].handed = true;
+    return !lost;
+}
+
+/* Some record that was handed over before, to this board or to any (0). */
+static bool once_more(uint32_t to, letter *one)
+{
+    if (random_below(8) != 0 || posted == waiting)
+        return false;
+    *one = post[waiting + random_below((uint32_t)(posted - waiting))];
+    return one->handed && (to == 0 || one->to == to);
+}
+
+/* Some record on its way to this board; `waiting` if there is none. */
+static size_t on_its_way_to(uint32_t to)
+{
+    size_t first = waiting == 0 ? 0 : random_below((uint32_t)waiting), i = 0;
+
+    while (i < waiting && post[(first + i) % waiting].to != to)
+        i++;
+    return i < waiting ? (first + i) % waiting : waiting;
+}
+
+/* Hands the record over in one mailbox with others to the same board. */
+static void take_with_others(letter one)
+{
+    static letter mail[MOST_MAIL];
+    uint32_t wanted = random_below(2) ? random_below(5) : random_below(MOST_MAIL);
+    size_t count = 0;
+
+    mail[count++] = one;
+    for (; wanted > 0 && count < MOST_MAIL - 1; wanted--) {
+        size_t pick = on_its_way_to(one.to);
+        letter other;
+
+        if (pick == waiting)
+            break;
+        if (arrives(pick, &other))
+            mail[count++] = other;
+        if (once_more(one.to, &other))
+            mail[count++] = other;
+    }
+    take_mailbox(mail, count);
+}
+
+/* Hands over what is waiting, in any order, until nothing waits. */
 static void hand_over(bool losing, uint32_t chatter)
 {
-    uint32_t kind = random_below(6), starved = random_below(2 * b.n), loss = losing ? random_below(40) : 0;
-
+    weather.losing = losing;
+    weather.kind = random_below(6);
+    weather.starved = random_below(2 * b.n);
+    weather.loss = losing ? random_below(40) : 0;
     while (waiting > 0) {
-        size_t pick = random_below((uint32_t)waiting);
-        letter one = post[pick];
-        bool often = losing && (one.to == starved || (one.len > 0 && one.bytes[0] == kind));
-        bool lost = random_below(100) < (often ? 80 : loss);
+        letter one;
 
-        waiting--;
-        post[pick] = post[waiting];
-        post[waiting] = one;
-        if (!lost) {
-            post[waiting].handed = true;
-            take(one);
-        }
-        if (random_below(8) == 0 && posted > waiting) {         /* once more */
-            one = post[waiting + random_below((uint32_t)(posted - waiting))];
-            if (one.handed)
+        if (arrives(random_below((uint32_t)waiting), &one)) {
+            if (polls && random_below(2))
+                take_with_others(one);
+            else
                 take(one);
         }
+        if (once_more(0, &one))
+            take(one);
         if (liars != 0 && chatter > 0 && random_below(3) == 0) {
             lie(some_liar());
             chatter--;
@@ -383,6 +550,7 @@ static void one_run(uint32_t n, uint32_t t)
     b.longest = random_below(10) ? random_below(40) : random_below(8) ? 0 : random_below(LONGEST + 1);
     message_len = random_below(b.longest + 1);
     random_bytes(message, message_len);
+    polls = random_below(3) == 0;
     draw_liars();
     grow_trees();
     start_all();
@@ -419,6 +587,8 @@ static void runs_of(uint32_t n, uint32_t t, unsigned long share)
     unsigned long count = runs_wanted * share / 10000, shown = 0;
 
     random_bytes(was_out, sizeof was_out);
+    random_bytes(was_vote, sizeof was_vote);
+    random_bytes(was_answers, sizeof was_answers);
     random_bytes(was_delivery, sizeof was_delivery);
     for (unsigned long i = 0; i < count || i == 0; i++) {
         place(i % 2 ? BEFORE_PAGE : AFTER_PAGE);
@@ -452,7 +622,7 @@ LINE(13, 4, 80)
 LINE(64, 0, 1)
 LINE(64, 21, 2)
 
-static void messages_voids_and_refusals_5_to_9_were_seen(void)
+static void messages_voids_mailboxes_and_refusals_5_to_9_were_seen(void)
 {
     static const char *const kinds[] = { "", "sends", "echoes", "votes" };
 
@@ -460,10 +630,13 @@ static void messages_voids_and_refusals_5_to_9_were_seen(void)
     printf("accepted");
     for (int kind = SEND; kind <= VOTE; kind++)
         printf(" %lu %s%s", accepted[kind], kinds[kind], kind < VOTE ? "," : "\n");
+    printf("%lu records in %lu mailboxes; an echo and a vote came out of %lu of these, a delivery out of %lu\n", mailed,
+           mailboxes, with_both, with_delivery);
     CHECK(messages > 0);
     if (runs_wanted < RUNS / 10)
         return;
     CHECK(voids > 0 && silent > 0);
+    CHECK(mailed > mailboxes + mailboxes / 2 && with_both > 0 && with_delivery > 0);
     for (int number = 5; number <= 9; number++)
         CHECK(refusals[number] > 0);
 }
@@ -491,7 +664,7 @@ static const test full_tests[] = {
 };
 
 static const test seen_tests[] = {
-    TEST(messages_voids_and_refusals_5_to_9_were_seen),
+    TEST(messages_voids_mailboxes_and_refusals_5_to_9_were_seen),
 };
 
 int main(int argc, char **argv)

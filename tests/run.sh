@@ -51,6 +51,7 @@ part reference make --no-print-directory reference-test
 part vectors make --no-print-directory vectors-test
 part ground make --no-print-directory ground-test
 part board make --no-print-directory board-test
+part mailbox make --no-print-directory mailbox-test
 part line make --no-print-directory line-test
 part drill make --no-print-directory drill-test
 part stack make --no-print-directory stack-test

@@ -15,6 +15,7 @@
 #include <string.h>
 #include <sys/mman.h>
 #include <ucontext.h>
+#include "mail.h"
 #include "trees.h"
 #include "tumbeliko.h"
 
@@ -24,10 +25,14 @@
 
 /* Bytes beyond the lent buffers. Why two calls may take more than the others
  * stands in docs/DECISIONS.md; theirs are 32 above what was measured, since
- * another C library's memset may take a little more. */
-#define LIMIT            768
-#define LIMIT_SEND       1112
-#define LIMIT_DELIVERING 1560
+ * another C library's memset may take a little more. A mailbox may take 64
+ * more than the step: than its limit, and than what the delivering one was
+ * measured to take, 1,512. */
+#define LIMIT                    768
+#define LIMIT_SEND               1112
+#define LIMIT_DELIVERING         1560
+#define LIMIT_MAILBOX            (LIMIT + 64)
+#define LIMIT_MAILBOX_DELIVERING 1576
 
 static uint8_t *stack;
 static ucontext_t here, there;
@@ -140,6 +145,15 @@ static tumbeliko_stepped no_step(uint8_t *s, size_t sl, uint32_t a, const uint8_
     return nothing;
 }
 
+static tumbeliko_mailed no_mailbox(uint8_t *s, size_t sl, const uint8_t *m, size_t ml, uint8_t *a, size_t al,
+                                   uint8_t *e, size_t el, uint8_t *v, size_t vl, uint8_t *d, size_t dl)
+{
+    static const tumbeliko_mailed nothing;
+
+    (void)s, (void)sl, (void)m, (void)ml, (void)a, (void)al, (void)e, (void)el, (void)v, (void)vl, (void)d, (void)dl;
+    return nothing;
+}
+
 static tumbeliko_sized no_send(uint32_t a, uint32_t b, uint32_t c, uint32_t d, const uint8_t *m, size_t ml,
                                uint32_t e, uint8_t *o, size_t ol)
 {
@@ -164,6 +178,8 @@ static tumbeliko_sized (*volatile writer)(uint32_t, const uint8_t *, size_t, con
 static uint32_t (*volatile start)(uint32_t, uint32_t, uint32_t, uint32_t, uint32_t, uint8_t *, size_t);
 static tumbeliko_stepped (*volatile step)(uint8_t *, size_t, uint32_t, const uint8_t *, size_t,
                                           uint8_t *, size_t, uint8_t *, size_t);
+static tumbeliko_mailed (*volatile mailbox)(uint8_t *, size_t, const uint8_t *, size_t, uint8_t *, size_t,
+                                            uint8_t *, size_t, uint8_t *, size_t, uint8_t *, size_t);
 static tumbeliko_sized (*volatile send)(uint32_t, uint32_t, uint32_t, uint32_t, const uint8_t *, size_t, uint32_t,
                                         uint8_t *, size_t);
 
@@ -173,6 +189,7 @@ static void all_real(void)
     writer = tumbeliko_write_record;
     start = tumbeliko_start;
     step = tumbeliko_step;
+    mailbox = tumbeliko_mailbox;
     send = tumbeliko_send;
     hash = tumbeliko_hash;
     path_correct = tumbeliko_path_correct;
@@ -187,6 +204,7 @@ static void all_empty(void)
     writer = no_writer;
     start = no_start;
     step = no_step;
+    mailbox = no_mailbox;
     send = no_send;
     hash = no_hash;
     path_correct = no_path;
@@ -254,6 +272,17 @@ static void run_step(void)
 {
     memcpy(state, base, sizeof state);
     kept = step(state, sizeof state, from, record, record_len, out, sizeof out, back, sizeof back).delivery;
+}
+
+static uint8_t box[70000], answers[TUMBELIKO_ITEMS_MAX], echo[TUMBELIKO_OUT_BYTES], vote[TUMBELIKO_VOTE_BYTES];
+static size_t box_len;
+
+/* A mailbox from the same state each time. */
+static void run_mailbox(void)
+{
+    memcpy(state, base, sizeof state);
+    kept = mailbox(state, sizeof state, box, box_len, answers, sizeof answers, echo, sizeof echo, vote, sizeof vote,
+                   back, sizeof back).delivery;
 }
 
 /* The call's own bytes: its return address and all below it. */
@@ -373,6 +402,71 @@ static void delivering_lines(void)
         void_line();
 }
 
+/* ---- mailboxes */
+
+/* Posts a record of that kind from each of the boards. */
+static void post(uint32_t kind, uint32_t first, uint32_t last)
+{
+    for (uint32_t board = first; board <= last; board++) {
+        make_record(kind, board);
+        box_len = add_item(box, box_len, (uint8_t)from, record, record_len);
+    }
+}
+
+/* The same from the tree of a lying sender. */
+static void post_lie(uint32_t kind, uint32_t first, uint32_t last)
+{
+    for (uint32_t board = first; board <= last; board++) {
+        record_len = tree_record(&lie, kind, board, record);
+        box_len = add_item(box, box_len, (uint8_t)board, record, record_len);
+    }
+}
+
+/* The mailbox as posted, at a fresh board. Each of its items must be taken
+ * as meant, so that what is measured is the case meant. */
+static void mailbox_line(const char *what, uint32_t answer, uint32_t delivery, size_t limit)
+{
+    size_t count = (size_t)box[0] << 8 | box[1];
+    int meant = 1;
+    char input[60];
+
+    tumbeliko_start(n, t, 1, LONGEST, 1, base, state_len());
+    run_mailbox();
+    for (size_t i = 0; i < count; i++)
+        meant = meant && answers[i] == answer;
+    expect(what, meant && kept == delivery);
+    snprintf(input, sizeof input, "%s, %zu items, 16,384 B, n %u, t %u", what, count, n, t);
+    line("mailbox", input, run_mailbox, limit);
+    box_len = empty_mailbox(box);
+}
+
+static void mailbox_lines(void)
+{
+    box_len = empty_mailbox(box);
+    mailbox_line("nothing", 0, TUMBELIKO_DELIVERY_NONE, LIMIT_MAILBOX);
+    while (box[1] < TUMBELIKO_ITEMS_MAX)
+        box_len = add_item(box, box_len, 1, record, 38);
+    mailbox_line("refused 5", 5, TUMBELIKO_DELIVERY_NONE, LIMIT_MAILBOX);
+    post(3, 1, n);
+    mailbox_line("votes", 0, TUMBELIKO_DELIVERY_NONE, LIMIT_MAILBOX);
+    post(1, 1, 1);
+    post(2, 1, n);
+    mailbox_line("send and echoes", 0, TUMBELIKO_DELIVERY_NONE, LIMIT_MAILBOX);
+    post(1, 1, 1);
+    post(3, 1, n - t);
+    post(2, 2 * t + 1, n);
+    mailbox_line("delivering by an echo", 0, TUMBELIKO_DELIVERY_MESSAGE, LIMIT_MAILBOX_DELIVERING);
+    post(1, 1, 1);
+    post(2, 1, n);
+    post(3, 1, n - t);
+    mailbox_line("delivering by a vote", 0, TUMBELIKO_DELIVERY_MESSAGE, LIMIT_MAILBOX_DELIVERING);
+    if (n > 1) {                                /* the tree is that of void_line */
+        post_lie(2, 1, n - 2 * t);
+        post_lie(3, 1, n - t);
+        mailbox_line("delivering void", 0, TUMBELIKO_DELIVERY_VOID, LIMIT_MAILBOX_DELIVERING);
+    }
+}
+
 static void board_lines(void)
 {
     char input[60];
@@ -395,6 +489,7 @@ static void board_lines(void)
     record_len = 38;
     step_line("refused 5", LIMIT);
     delivering_lines();
+    mailbox_lines();
 }
 
 int main(void)

@@ -28,7 +28,7 @@ bool same_as_file(const board *one)
         && memcmp(one->delivered, play.file, play.file_len) == 0;
 }
 
-static void must_not_be_refused(const char *what, uint32_t number)
+void must_not_be_refused(const char *what, uint32_t number)
 {
     if (number != TUMBELIKO_OK) {
         fprintf(stderr, "line: %s was refused with %u\n", what, number);
@@ -78,10 +78,29 @@ static void send_all(void)
     }
 }
 
-/* ---- a step */
+/* ---- what handing over leaves */
 
-/* The record that a step put out, to all boards, this one too. */
-static void put_out_to_all(uint32_t from, const uint8_t *out, size_t len)
+/* The number that a record got from its receiver. */
+void note_answer(letter *which, uint32_t number)
+{
+    board *receiver = &line[which->to - 1];
+
+    which->answer = number;
+    which->fate = number == TUMBELIKO_OK ? TAKEN : REFUSED;
+    which->due = now;
+    seen.handed++;
+    seen.answers[number & 15]++;
+    receiver->steps++;
+    if (number == TUMBELIKO_OK) {
+        receiver->heard[which->bytes[0] & 3]++;
+        receiver->taken_step = seen.handed;
+    } else {
+        receiver->refused++;
+    }
+}
+
+/* A record that a board puts out, to all boards, this one too. */
+void put_out_to_all(uint32_t from, const uint8_t *out, size_t len)
 {
     const uint8_t *bytes = kept(out, len);
     uint32_t first = random_below(play.n);
@@ -96,37 +115,31 @@ static void put_out_to_all(uint32_t from, const uint8_t *out, size_t len)
         line[from - 1].voted_at = now;
 }
 
-static void deliver(board *one, tumbeliko_stepped did, const uint8_t *delivery)
+/* No record is taken after a delivery, so the last one taken brought it. */
+void deliver(board *one, uint32_t delivery, size_t length, const uint8_t *bytes)
 {
-    one->delivery = did.delivery;
+    one->delivery = delivery;
     one->delivered_at = now;
-    one->delivered_step = seen.handed;
-    one->length = did.message_length;
-    one->delivered = memcpy(room_for(one->length), delivery, one->length);
+    one->delivered_step = one->taken_step;
+    one->length = length;
+    one->delivered = memcpy(room_for(length), bytes, length);
 }
 
+/* Hands one record over, by a step. */
 static void hand_over(letter *which)
 {
     static uint8_t out[TUMBELIKO_OUT_BYTES], delivery[LONGEST];
-    letter one = *which;
-    board *receiver = &line[one.to - 1];
-    tumbeliko_stepped did = tumbeliko_step(receiver->state, receiver->state_len, one.from, one.bytes, one.len,
+    uint32_t own = which->to;
+    board *receiver = &line[own - 1];
+    tumbeliko_stepped did = tumbeliko_step(receiver->state, receiver->state_len, which->from, which->bytes, which->len,
                                            out, sizeof out, delivery, sizeof delivery);
 
-    which->answer = did.number;
-    which->fate = did.number == TUMBELIKO_OK ? TAKEN : REFUSED;
-    seen.handed++;
-    seen.answers[did.number & 15]++;
-    receiver->steps++;
-    if (did.number != TUMBELIKO_OK) {
-        receiver->refused++;
-        return;
-    }
-    receiver->heard[one.bytes[0] & 3]++;
+    seen.calls++;
+    note_answer(which, did.number);
     if (did.delivery != TUMBELIKO_DELIVERY_NONE)
-        deliver(receiver, did, delivery);
+        deliver(receiver, did.delivery, did.message_length, delivery);
     if (did.record_length > 0)
-        put_out_to_all(one.to, out, did.record_length);
+        put_out_to_all(own, out, did.record_length);
 }
 
 /* ---- the run */
@@ -156,7 +169,10 @@ static void arrive(letter *which)
         hears_and_lies(&one);
         return;
     }
-    hand_over(which);
+    if (play.poll > 0)
+        drop_into_mailbox(which);
+    else
+        hand_over(which);
     if (!one.again && random_below(REPEATED_ONE_IN) == 0 && now < line[one.from - 1].stops_at) {
         put_again(&one, now);
         seen.repeated++;
@@ -165,13 +181,14 @@ static void arrive(letter *which)
 
 void run_line(void)
 {
-    letter *one;
-
     start_all();
     if (runs_steps(SENDER))
         send_all();
     else
         send_lies();
-    while ((one = next_letter()) != NULL)
-        arrive(one);
+    while (next_due() != NEVER || next_poll() != NEVER)
+        if (next_poll() <= next_due())
+            empty_next_mailbox();
+        else
+            arrive(next_letter());
 }

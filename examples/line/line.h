@@ -4,6 +4,7 @@
  *   main.c      options
  *   line.c      the boards that keep the rules, and the run
  *   post.c      records on their way: when each is put out and handed over
+ *   mail.c      mailboxes, if the boards have them: all that a poll finds in one call
  *   lies.c      the boards that break the rules
  *   table.c     what is printed
  *   picture.c   what is drawn; marks.c its arrows and marks
@@ -37,6 +38,7 @@ typedef enum {
 
 typedef struct {
     uint32_t n, t, loss;                /* loss: how many records in 100 */
+    uint64_t poll;                      /* from one look into a mailbox to the next; 0 without mailboxes */
     uint64_t seed;
     const char *name, *picture;
     uint8_t file[LONGEST + 1];
@@ -49,7 +51,8 @@ typedef struct {
     uint8_t *state, *delivered;
     size_t state_len, length;
     unsigned heard[4], refused;         /* accepted records by kind, and refused ones */
-    unsigned steps, delivered_step;     /* records handed over: to this board, and on the line until it delivered */
+    unsigned steps;                     /* records handed over to this board, */
+    unsigned taken_step, delivered_step;        /* and on the line until it last took one, and until it delivered */
     uint32_t delivery;
     uint64_t echoed_at, voted_at, delivered_at, stops_at;
 } board;
@@ -63,13 +66,13 @@ typedef struct {
     size_t len;
     bool genuine;                       /* put out as the rules say, not a lie */
     bool again;                         /* the same record once more: after a loss, or a repetition */
-    uint64_t put_out, due;
+    uint64_t put_out, due;              /* due: when it arrives; once it was handed over, when that was */
     fate fate;
     uint32_t answer;                    /* the step's number, if it was handed over */
 } letter;
 
 typedef struct {
-    unsigned handed, lost, repeated, answers[16];
+    unsigned handed, calls, lost, repeated, answers[16];        /* records handed over, and by how many calls */
     unsigned long records, bytes;               /* put out by boards that keep the rules, one for each receiver */
     unsigned long other_records, other_bytes;   /* by the others */
 } figures;
@@ -83,10 +86,20 @@ bool keeps(uint32_t number);
 bool same_as_file(const board *one);
 void run_line(void);
 
+void must_not_be_refused(const char *what, uint32_t number);
+void note_answer(letter *which, uint32_t number);
+void deliver(board *one, uint32_t delivery, size_t length, const uint8_t *bytes);
+void put_out_to_all(uint32_t from, const uint8_t *out, size_t len);
+
+/* mail.c */
+void drop_into_mailbox(const letter *which);
+uint64_t next_poll(void);               /* the time of the next look that finds something, or NEVER */
+void empty_next_mailbox(void);
+
 /* post.c: all records ever put out, in post[0 .. posted) */
 extern letter *post;
 extern size_t posted;
-extern uint64_t now;                    /* the time at which the last record arrived */
+extern uint64_t now;                    /* the time at which the last record arrived, or a board looked for mail */
 
 uint32_t random_below(uint32_t limit);
 void *room_for(size_t bytes);
@@ -94,6 +107,7 @@ const uint8_t *kept(const uint8_t *bytes, size_t len);
 void put_out_one(uint32_t from, uint32_t to, const uint8_t *bytes, size_t len, bool genuine, uint64_t when);
 uint64_t put_out_gap(void);
 void put_again(const letter *one, uint64_t when);
+uint64_t next_due(void);                /* when the next record arrives, or NEVER */
 letter *next_letter(void);
 
 /* lies.c */

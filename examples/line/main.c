@@ -14,7 +14,7 @@ static const char built_in[] =
 static void help(const char *program)
 {
     printf("usage: %s [-n BOARDS] [-t FAULTY] [--breaks LIST] [--loss PERCENT]\n"
-           "       [--seed NUMBER] [--picture FILE.svg] [FILE]\n\n"
+           "       [--poll MS] [--seed NUMBER] [--picture FILE.svg] [FILE]\n\n"
            "Board 1 spreads FILE (or a built-in text) to all boards. Records are lost and\n"
            "put out again, repeated, and handed over in any order, and some boards break\n"
            "the rules. Shows what each board heard, put out and delivered, counts records\n"
@@ -31,6 +31,9 @@ static void help(const char *program)
            "                    garbles  (board 1) sends fragments of no block\n"
            "                    splits   (board 1) sends two different files\n"
            "  --loss PERCENT  how many records in 100 are lost, 0 to 90; 10 if not given\n"
+           "  --poll MS       records wait in a mailbox, and each board empties its own every\n"
+           "                  MS milliseconds, 1 to 1000, by one call; if not given, each\n"
+           "                  record is handed over by a call of its own as it arrives\n"
            "  --seed NUMBER   the same run for the same number\n"
            "  --picture FILE  draws the run as SVG, for a browser\n"
            "  --file FILE     the same as FILE: at most 16,384 bytes\n"
@@ -101,10 +104,10 @@ static int break_all(const char *list)
 
 /* ---- the other options */
 
-enum { N, T, LOSS, SEED, NUMBERS };
+enum { N, T, LOSS, POLL, SEED, NUMBERS };
 enum { BREAKS, PICTURE, FILE_NAME, WORDS };
 
-static long numbers[NUMBERS] = { 7, -1, 10, -1 };
+static long numbers[NUMBERS] = { 7, -1, 10, -1, -1 };
 static const char *words[WORDS];
 
 static int find(const char *const *names, int count, const char *name)
@@ -119,7 +122,7 @@ static int find(const char *const *names, int count, const char *name)
 /* Takes the option and its value; answers how many arguments were taken, 0 after a complaint. */
 static int take_option(const char *name, const char *value)
 {
-    static const char *const with_number[] = { "-n", "-t", "--loss", "--seed" };
+    static const char *const with_number[] = { "-n", "-t", "--loss", "--poll", "--seed" };
     static const char *const with_word[] = { "--breaks", "--picture", "--file" };
     int number = find(with_number, NUMBERS, name), word = find(with_word, WORDS, name);
 
@@ -164,9 +167,12 @@ static int set_up(void)
         return complain("3t must be below n", "");
     if (numbers[LOSS] > 90)
         return complain("at most 90 of 100 records can be lost", "");
+    if (numbers[POLL] == 0 || numbers[POLL] > 1000)
+        return complain("there must be 1 to 1000 ms from poll to poll", "");
     play.n = (uint32_t)numbers[N];
     play.t = (uint32_t)numbers[T];
     play.loss = (uint32_t)numbers[LOSS];
+    play.poll = numbers[POLL] < 0 ? 0 : (uint64_t)numbers[POLL] * 1000;
     play.seed = (uint64_t)(numbers[SEED] >= 0 ? numbers[SEED] : (long)(time(NULL) % 1000000));
     play.picture = words[PICTURE];
     play.name = words[FILE_NAME] != NULL ? words[FILE_NAME] : "a built-in text";

@@ -188,13 +188,16 @@ static void draw_board(uint32_t own, uint64_t end)
 static void draw_figures(double y)
 {
     unsigned refused = seen.handed - seen.answers[0];
+    char calls[40] = "";
 
+    if (play.poll > 0)
+        snprintf(calls, sizeof calls, " by %u calls", seen.calls);
     fprintf(to, "<text><tspan x=\"500\" y=\"%.1f\" font-weight=\"bold\">Records</tspan>"
             "<tspan x=\"500\" dy=\"24\">%lu put out by the boards that keep the rules, %lu bytes</tspan>"
             "<tspan x=\"500\" dy=\"22\">%lu put out by the others, %lu bytes</tspan>"
-            "<tspan x=\"500\" dy=\"22\">%u handed over: %u accepted, %u refused</tspan>"
+            "<tspan x=\"500\" dy=\"22\">%u handed over%s: %u accepted, %u refused</tspan>"
             "<tspan x=\"500\" dy=\"22\">%u lost, %u repeated</tspan></text>\n", y + 4, seen.records, seen.bytes,
-            seen.other_records, seen.other_bytes, seen.handed, seen.answers[0], refused, seen.lost, seen.repeated);
+            seen.other_records, seen.other_bytes, seen.handed, calls, seen.answers[0], refused, seen.lost, seen.repeated);
 }
 
 static void draw_promise(double y, const char *name, bool asked, bool held)

@@ -127,6 +127,11 @@ void put_again(const letter *one, uint64_t when)
     add(more);
 }
 
+uint64_t next_due(void)
+{
+    return waiting == 0 ? NEVER : post[heap[0]].due;
+}
+
 /* The next record to arrive, or NULL. It stays in place until the next call that adds one. */
 letter *next_letter(void)
 {

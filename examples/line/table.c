@@ -55,6 +55,8 @@ static void show_figures(void)
     for (int number = 1; number < 16; number++)
         if (seen.answers[number] > 0)
             printf(", %u %s", seen.answers[number], meanings[number] != NULL ? meanings[number] : "refused");
+    if (play.poll > 0)
+        printf("\n  mailboxes      %u calls instead of %u: %u saved", seen.calls, seen.handed, seen.handed - seen.calls);
     printf("\n  on the way     %u lost, %u repeated\n", seen.lost, seen.repeated);
     printf("  put out        %lu records, %lu bytes by the %u boards that keep the rules, one for each receiver\n",
            seen.records, seen.bytes, h);
@@ -68,7 +70,10 @@ void show_table(void)
 {
     printf("%s, %zu bytes, from board %d to %u boards, of which %u may break the rules\n", play.name, play.file_len,
            SENDER, play.n, play.t);
-    printf("seed %llu; of 100 records %u are lost\n\n", (unsigned long long)play.seed, play.loss);
+    printf("seed %llu; of 100 records %u are lost", (unsigned long long)play.seed, play.loss);
+    if (play.poll > 0)
+        printf("; each board empties its mailbox every %u ms", (unsigned)(play.poll / 1000));
+    printf("\n\n");
     printf("                            accepted\n");
     printf("  board                   sends  echoes  votes  refused  put out     delivered     at step\n");
     for (uint32_t own = 1; own <= play.n; own++)

@@ -1,4 +1,4 @@
-/* Records, the sender, and a board's state and step. */
+/* Records, the sender, and a board's state, step and mailbox. */
 
 #include <string.h>
 #include "reference.h"
@@ -253,19 +253,28 @@ uint32_t ref_start(uint32_t n, uint32_t t, uint32_t sender, uint32_t longest, ui
 
 /* ---- the step */
 
-/* The refusal that a record gets from a board, or 0. */
-static uint32_t refusal(const ref_board *b, size_t state_len, uint32_t from, const uint8_t *record, size_t record_len,
-                        size_t out_len, size_t delivery_len)
+/* The refusal that what is lent to a board gets, whatever is handed over, or 0. */
+static uint32_t unfit(const ref_board *b, size_t state_len, size_t out_len, size_t delivery_len)
 {
-    ref_parts parts;
-    uint64_t bit;
-
     if (state_len < REF_STATE_HEAD)
         return 2;
     if (!ref_sound(b))
         return 3;
     if (state_len < state_bytes(b->table) || out_len < REF_OUT || delivery_len < b->table.longest)
         return 2;
+    return 0;
+}
+
+/* The refusal that a record gets from a board, or 0. */
+static uint32_t refusal(const ref_board *b, size_t state_len, uint32_t from, const uint8_t *record, size_t record_len,
+                        size_t out_len, size_t delivery_len)
+{
+    uint32_t lent = unfit(b, state_len, out_len, delivery_len);
+    ref_parts parts;
+    uint64_t bit;
+
+    if (lent != 0)
+        return lent;
     if (from < 1 || from > b->table.n)
         return 4;
     parts = ref_read_record(record, record_len);
@@ -369,6 +378,85 @@ ref_stepped ref_step(ref_board *b, size_t state_len, uint32_t from, const uint8_
         if (ones(usable) >= ref_k(b->table)) {
             answer.delivery = deliver(b, due, usable, delivery, &answer.message_length);
             b->done = true;
+        }
+    }
+    return answer;
+}
+
+/* ---- the mailbox */
+
+/* Takes a two-byte number from the front of what is left. */
+static bool two_bytes(const uint8_t **at, size_t *left, size_t *number)
+{
+    if (*left < 2)
+        return false;
+    *number = (size_t)(*at)[0] * 256 + (*at)[1];
+    *at += 2;
+    *left -= 2;
+    return true;
+}
+
+/* Takes an item: the sending board, a length and the record. */
+static bool take_item(const uint8_t **at, size_t *left, uint32_t *from, const uint8_t **record, size_t *record_len)
+{
+    if (*left < 1)
+        return false;
+    *from = **at;
+    *at += 1;
+    *left -= 1;
+    if (!two_bytes(at, left, record_len) || *left < *record_len)
+        return false;
+    *record = *at;
+    *at += *record_len;
+    *left -= *record_len;
+    return true;
+}
+
+/* Is the mailbox a count and so many items, and nothing else? */
+static bool framed(const uint8_t *mailbox, size_t mailbox_len, size_t *count)
+{
+    const uint8_t *at = mailbox, *record;
+    size_t left = mailbox_len, record_len;
+    uint32_t from;
+
+    if (!two_bytes(&at, &left, count) || *count > REF_ITEMS)
+        return false;
+    for (size_t i = 0; i < *count; i++)
+        if (!take_item(&at, &left, &from, &record, &record_len))
+            return false;
+    return left == 0;
+}
+
+ref_mailed ref_mailbox(ref_board *b, size_t state_len, const uint8_t *mailbox, size_t mailbox_len,
+                       uint8_t *answers, size_t answers_len, uint8_t *echo, size_t echo_len,
+                       uint8_t *vote, size_t vote_len, uint8_t *delivery, size_t delivery_len)
+{
+    static uint8_t out[REF_OUT];
+    ref_mailed answer = { 0, 0, 0, 0, 0 };
+    const uint8_t *at, *record;
+    size_t left, count, record_len;
+    uint32_t from;
+
+    answer.number = unfit(b, state_len, echo_len, delivery_len);
+    if (answer.number == 0 && vote_len < REF_VOTE)
+        answer.number = 2;
+    if (answer.number == 0 && (!framed(mailbox, mailbox_len, &count) || answers_len < count))
+        answer.number = 16;
+    if (answer.number != 0)
+        return answer;
+    at = mailbox + 2;
+    left = mailbox_len - 2;
+    for (size_t i = 0; i < count && take_item(&at, &left, &from, &record, &record_len); i++) {
+        ref_stepped did = ref_step(b, state_len, from, record, record_len, out, sizeof out, delivery, delivery_len);
+
+        answers[i] = (uint8_t)did.number;
+        if (did.record_length > 0 && out[0] == ECHO)
+            memcpy(echo, out, answer.echo_length = did.record_length);
+        if (did.record_length > 0 && out[0] == VOTE)
+            memcpy(vote, out, answer.vote_length = did.record_length);
+        if (did.delivery != NONE) {
+            answer.delivery = did.delivery;
+            answer.message_length = did.message_length;
         }
     }
     return answer;

@@ -1,6 +1,6 @@
 /*
- * A second implementation of the whole of document 01, in plain C, to hold
- * the library's answers against. Nothing of it comes from the library: the
+ * A second implementation of the whole of document 01 and of request 1 of
+ * document 02, in plain C, to hold the library's answers against. Nothing of it comes from the library: the
  * field multiplies by shift and add, rebuilding solves linear equations by
  * elimination, the tree is cut by recursion, a board is a C struct.
  *
@@ -19,12 +19,15 @@
 #define REF_LONGEST     16384
 #define REF_FRAGMENT    16388
 #define REF_OUT         16619
+#define REF_VOTE        39
 #define REF_STATE_HEAD  4608
+#define REF_ITEMS       255
 
 typedef struct { uint32_t number, length; } ref_sized;
 typedef struct { uint32_t number; uint8_t bytes[32]; } ref_digest;
 typedef struct { uint32_t number, kind, nodes, fragment_length; } ref_parts;
 typedef struct { uint32_t number, record_length, delivery, message_length; } ref_stepped;
+typedef struct { uint32_t number, echo_length, vote_length, delivery, message_length; } ref_mailed;
 
 /* The table of boards, and what follows from it. */
 typedef struct { uint32_t n, t, sender, longest; } ref_table;
@@ -65,7 +68,7 @@ ref_sized ref_rebuild(uint32_t n, uint32_t t, uint32_t sender, uint32_t longest,
 ref_sized ref_read_block(uint32_t n, uint32_t t, uint32_t sender, uint32_t longest,
                          const uint8_t *block, size_t block_len, uint8_t *message, size_t message_len);
 
-/* board.c: records, state, start, step, send */
+/* board.c: records, state, start, step, mailbox, send */
 
 ref_parts ref_read_record(const uint8_t *record, size_t record_len);
 
@@ -93,6 +96,10 @@ uint32_t ref_start(uint32_t n, uint32_t t, uint32_t sender, uint32_t longest, ui
 
 ref_stepped ref_step(ref_board *board, size_t state_len, uint32_t from, const uint8_t *record, size_t record_len,
                      uint8_t *out, size_t out_len, uint8_t *delivery, size_t delivery_len);
+
+ref_mailed ref_mailbox(ref_board *board, size_t state_len, const uint8_t *mailbox, size_t mailbox_len,
+                       uint8_t *answers, size_t answers_len, uint8_t *echo, size_t echo_len,
+                       uint8_t *vote, size_t vote_len, uint8_t *delivery, size_t delivery_len);
 
 bool ref_sound(const ref_board *board);
 

@@ -1,11 +1,12 @@
 /*
- * The reference itself, tried on the sentences of document 01: what the
- * library is held against must be right first.
+ * The reference itself, tried on the sentences of document 01 and of request
+ * 1 of document 02: what the library is held against must be right first.
  */
 
 #include <stdlib.h>
 #include <string.h>
 #include "harness.h"
+#include "mail.h"
 #include "reference.h"
 
 enum { SEND = 1, ECHO = 2, VOTE = 3 };
@@ -223,6 +224,166 @@ static void out_and_delivery_are_needed_in_every_step(void)
     CHECK(ref_step(&boards[0], state, 1, record, 39, out, REF_OUT, delivery, 15).number == 2);
     CHECK(ref_step(&boards[0], state, 1, record, 39, out, REF_OUT, delivery, 16).number == 0);
     CHECK(ref_step(&boards[0], state, 1, record, 39, out, REF_OUT, delivery, 16).number == 9);
+}
+
+/* ---- mailboxes */
+
+static uint8_t mailbox[70000], answers[300], echo[REF_OUT], vote[REF_VOTE];
+
+static ref_mailed mail(ref_board *board, const uint8_t *box, size_t len, size_t answers_len)
+{
+    return ref_mailbox(board, state_len(board->table), box, len, answers, answers_len, echo, sizeof echo,
+                       vote, sizeof vote, delivery, sizeof delivery);
+}
+
+/* The one board of n 1 gets its send, its echo and its vote in one mailbox:
+ * 2 + 47 + 47 + 42 bytes. */
+static void an_echo_a_vote_and_the_delivery_worked_out_by_hand(void)
+{
+    static const uint8_t leaf[6] = { 0, 0, 0, 0, 1, 'A' };      /* 0, then the block of the message A */
+    ref_digest root = ref_hash(leaf, 6);
+    ref_mailed did;
+
+    memcpy(mailbox, (const uint8_t[]){ 0, 3, 1, 0, 44, SEND, 0, 32 }, 8);
+    memcpy(mailbox + 8, root.bytes, 32);
+    memcpy(mailbox + 40, (const uint8_t[]){ 0, 0, 0, 5, 0, 0, 0, 1, 'A' }, 9);
+    memcpy(mailbox + 49, mailbox + 2, 47);
+    mailbox[52] = ECHO;
+    memcpy(mailbox + 96, (const uint8_t[]){ 1, 0, 39, VOTE, 0, 32 }, 6);
+    memcpy(mailbox + 102, root.bytes, 32);
+    memset(mailbox + 134, 0, 4);
+    CHECK(ref_start(1, 0, 1, 16, 1, &boards[0], 4628) == 0);
+    memset(answers, 77, sizeof answers);
+    did = mail(&boards[0], mailbox, 138, 3);
+    CHECK(did.number == 0 && did.echo_length == 44 && did.vote_length == 39);
+    CHECK(did.delivery == MESSAGE && did.message_length == 1 && delivery[0] == 'A');
+    CHECK(memcmp(answers, "\0\0\0\x4d", 4) == 0);
+    CHECK(memcmp(echo, mailbox + 52, 44) == 0);
+    CHECK(memcmp(vote, mailbox + 99, 39) == 0);
+    CHECK(boards[0].done && ref_sound(&boards[0]));
+    did = mail(&boards[0], mailbox, 138, 300);
+    CHECK(did.number == 0 && did.echo_length == 0 && did.vote_length == 0 && did.delivery == NONE);
+    CHECK(did.message_length == 0 && memcmp(answers, "\x8\x8\x8\x4d", 4) == 0);
+}
+
+/* To a board of n 4: what is framed, and the answer of each item. */
+static void framings_worked_out_by_hand(void)
+{
+    static const struct {
+        size_t len;
+        uint8_t bytes[12];
+        uint32_t number;
+        const char *answers;
+    } cases[] = {
+        { 0, { 0 }, 16, "" }, { 1, { 0 }, 16, "" }, { 2, { 0, 0 }, 0, "" }, { 3, { 0, 0, 0 }, 16, "" },
+        { 2, { 0, 1 }, 16, "" }, { 3, { 0, 1, 4 }, 16, "" }, { 4, { 0, 1, 4, 0 }, 16, "" },
+        { 5, { 0, 1, 4, 0, 0 }, 0, "\5" }, { 5, { 0, 1, 5, 0, 0 }, 0, "\4" }, { 5, { 0, 1, 0, 0, 0 }, 0, "\4" },
+        { 5, { 0, 1, 255, 0, 0 }, 0, "\4" }, { 5, { 0, 0, 4, 0, 0 }, 16, "" }, { 5, { 0, 2, 4, 0, 0 }, 16, "" },
+        { 5, { 1, 1, 4, 0, 0 }, 16, "" }, { 5, { 0, 1, 4, 0, 1 }, 16, "" }, { 6, { 0, 1, 4, 0, 1, 3 }, 0, "\5" },
+        { 6, { 0, 1, 4, 0, 0, 3 }, 16, "" }, { 6, { 0, 1, 4, 1, 0, 3 }, 16, "" }, { 6, { 0, 1, 4, 0, 2, 3 }, 16, "" },
+        { 8, { 0, 2, 4, 0, 0, 9, 0, 0 }, 0, "\5\4" }, { 8, { 0, 1, 4, 0, 0, 9, 0, 0 }, 16, "" },
+        { 8, { 0, 1, 4, 0, 3, 9, 0, 0 }, 0, "\5" }, { 8, { 0, 3, 4, 0, 0, 9, 0, 0 }, 16, "" },
+        { 7, { 0, 2, 4, 0, 0, 9, 0 }, 16, "" }, { 9, { 0, 2, 4, 0, 0, 9, 0, 0, 0 }, 16, "" },
+    };
+
+    for (size_t c = 0; c < sizeof cases / sizeof *cases; c++) {
+        size_t count = strlen(cases[c].answers);
+        ref_mailed did;
+
+        CHECK(ref_start(4, 1, 2, 16, 1, &boards[0], 4608 + 4 * 10) == 0);
+        before = boards[0];
+        memset(answers, 77, sizeof answers);
+        did = mail(&boards[0], cases[c].bytes, cases[c].len, sizeof answers);
+        CHECK(did.number == cases[c].number);
+        CHECK(did.echo_length == 0 && did.vote_length == 0 && did.delivery == NONE && did.message_length == 0);
+        CHECK(memcmp(answers, cases[c].answers, count) == 0 && answers[count] == 77);
+        CHECK(memcmp(&before, &boards[0], sizeof before) == 0);
+        if (count > 0)
+            CHECK(mail(&boards[0], cases[c].bytes, cases[c].len, count - 1).number == 16);
+    }
+}
+
+static void counts_0_to_255_are_taken_and_256_refused_with_16(void)
+{
+    size_t len = empty_mailbox(mailbox);
+
+    CHECK(ref_start(4, 1, 2, 16, 1, &boards[0], 4608 + 4 * 10) == 0);
+    for (size_t count = 0; count <= 256; count++) {
+        memset(answers, 77, sizeof answers);
+        CHECK(mail(&boards[0], mailbox, len, count).number == (count <= 255 ? 0 : 16));
+        for (size_t i = 0; i < sizeof answers; i++)
+            CHECK(answers[i] == (i >= count || count > 255 ? 77 : i % 5 == 0 ? 4 : 5));
+        if (count > 0)
+            CHECK(mail(&boards[0], mailbox, len, count - 1).number == 16);
+        len = add_item(mailbox, len, (uint8_t)(count % 5), mailbox, count % 3);
+    }
+}
+
+/* One mailbox with an item for each answer; n 4, t 1, the sender is board 2. */
+static void every_answer_of_an_item_stands_in_its_place_and_the_others_go_on(void)
+{
+    static const uint8_t right[] = { 4, 4, 5, 6, 0, 9, 7, 0, 0, 9, 0, 8, 0, 0, 8, 8 };
+    static uint8_t sends[5][REF_OUT];
+    ref_table table = { 4, 1, 2, 16 };
+    size_t len = empty_mailbox(mailbox), sent[5], above;
+    ref_mailed did;
+
+    for (uint32_t to = 1; to <= 4; to++)
+        sent[to] = ref_send(4, 1, 2, 16, (const uint8_t *)"a sheet", 7, to, sends[to], REF_OUT).length;
+    ref_write_record(VOTE, sends[1] + 3, 32, NULL, 0, NULL, 0, record, sizeof record);
+    above = ref_write_record(ECHO, record, 32, record, 0, bytes + 100, 11, bytes, REF_OUT).length;  /* s_max is 10 */
+    len = add_item(mailbox, len, 0, record, 39);
+    len = add_item(mailbox, len, 5, record, 39);
+    len = add_item(mailbox, len, 1, record, 38);
+    len = add_item(mailbox, len, 3, sends[1], sent[1]);         /* a send, and not from the sender */
+    len = add_item(mailbox, len, 2, sends[1], sent[1]);         /* echoed */
+    len = add_item(mailbox, len, 2, sends[1], sent[1]);
+    len = add_item(mailbox, len, 2, bytes, above);
+    len = add_item(mailbox, len, 1, record, 39);
+    len = add_item(mailbox, len, 2, record, 39);                /* t + 1 votes: voted */
+    len = add_item(mailbox, len, 2, record, 39);
+    len = add_item(mailbox, len, 4, record, 39);                /* n - t votes: the output stage */
+    len = add_item(mailbox, len, 2, sends[1], sent[1]);
+    for (uint32_t from = 3; from <= 4; from++) {                /* k = 2 echoes: delivered */
+        sends[from][0] = ECHO;
+        len = add_item(mailbox, len, (uint8_t)from, sends[from], sent[from]);
+    }
+    len = add_item(mailbox, len, 4, sends[4], sent[4]);
+    len = add_item(mailbox, len, 3, record, 39);
+    CHECK(ref_start(4, 1, 2, 16, 1, &boards[0], state_len(table)) == 0);
+    did = mail(&boards[0], mailbox, len, sizeof right);
+    CHECK(did.number == 0 && memcmp(answers, right, sizeof right) == 0);
+    CHECK(did.echo_length == sent[1] && echo[0] == ECHO && memcmp(echo + 1, sends[1] + 1, sent[1] - 1) == 0);
+    CHECK(did.vote_length == 39 && memcmp(vote, record, 39) == 0);
+    CHECK(did.delivery == MESSAGE && did.message_length == 7 && memcmp(delivery, "a sheet", 7) == 0);
+}
+
+/* Every combination of the faults of a mailbox. */
+static void a_mailbox_is_looked_at_in_the_order_3_2_16(void)
+{
+    ref_table table = { 4, 1, 2, 16 };
+
+    for (unsigned faults = 0; faults < 256; faults++) {
+        static const uint32_t order[] = { 2, 3, 2, 2, 2, 2, 16, 16 };
+        size_t state = state_len(table), len = add_item(mailbox, empty_mailbox(mailbox), 9, record, 4);
+        uint32_t number = 0;
+        ref_mailed did;
+
+        CHECK(ref_start(table.n, table.t, table.sender, table.longest, 1, &boards[0], state) == 0);
+        if (faults & 2)
+            boards[0].usable = 1;
+        for (int f = 7; f >= 0; f--)
+            if (faults >> f & 1)
+                number = order[f];
+        before = boards[0];
+        did = ref_mailbox(&boards[0], faults & 1 ? 4607 : faults & 4 ? state - 1 : state,
+                          mailbox, faults & 64 ? len - 1 : len, answers, faults & 128 ? 0 : 1,
+                          echo, faults & 8 ? REF_OUT - 1 : REF_OUT, vote, faults & 16 ? 38 : 39,
+                          delivery, faults & 32 ? 15 : 16);
+        CHECK(did.number == number);
+        CHECK(did.echo_length == 0 && did.vote_length == 0 && did.delivery == NONE && did.message_length == 0);
+        CHECK(memcmp(&before, &boards[0], sizeof before) == 0);
+    }
 }
 
 /* ---- whole runs: all that is put out is handed over, in random order */
@@ -481,6 +642,14 @@ static const test board_tests[] = {
     TEST(a_state_s_bytes_are_decoded_field_by_field),
 };
 
+static const test mailbox_tests[] = {
+    TEST(an_echo_a_vote_and_the_delivery_worked_out_by_hand),
+    TEST(framings_worked_out_by_hand),
+    TEST(counts_0_to_255_are_taken_and_256_refused_with_16),
+    TEST(every_answer_of_an_item_stands_in_its_place_and_the_others_go_on),
+    TEST(a_mailbox_is_looked_at_in_the_order_3_2_16),
+};
+
 static const test run_tests[] = {
     TEST(a_rule_keeping_sender_s_message_is_delivered_by_all),
     TEST(rule_breaking_boards_do_not_keep_the_others_apart),
@@ -490,7 +659,7 @@ int main(int argc, char **argv)
 {
     static const group groups[] = {
         GROUP("by hand", hand_tests), GROUP("records", record_tests), GROUP("boards", board_tests),
-        GROUP("runs", run_tests),
+        GROUP("mailboxes", mailbox_tests), GROUP("runs", run_tests),
     };
 
     return run_groups(groups, sizeof groups / sizeof *groups, argc, argv);
