@@ -29,21 +29,21 @@ use Rattle.board_mailbox.specs.Once.{delivers, howOften, OneOfEach}
 use Rattle.board_mailbox.proofs.Handing.{voting, said-short}
 
 -- a step that leaves y from s does something only with the flag down, and then it is up; it never goes down
-record OnlyOnce (flag : Marks → Bool) (does : Outcome → Bool) (s : List ℕ) (y : Outcome) : Type 0 where
-  first : does y ≡ true → flag (marksOf s) ≡ false
-  sets : does y ≡ true → flag (marksOf (y .state)) ≡ true
-  keeps : flag (marksOf s) ≡ true → flag (marksOf (y .state)) ≡ true
+pub record OnlyOnce (flag : Marks → Bool) (does : Outcome → Bool) (s : List ℕ) (y : Outcome) : Type 0 where
+  pub first : does y ≡ true → flag (marksOf s) ≡ false
+  pub sets : does y ≡ true → flag (marksOf (y .state)) ≡ true
+  pub keeps : flag (marksOf s) ≡ true → flag (marksOf (y .state)) ≡ true
 
 -- ---- the kind of what is put out
 
 module _ (p f : ℕ) (r : List ℕ) where
-  is-echo : (e v : Bool) → eqb (getD (putOut e v p f r) 0 0) 2 ≡ e
+  pub is-echo : (e v : Bool) → eqb (getD (putOut e v p f r) 0 0) 2 ≡ e
   unfolding putOut pick recordOf
   is-echo true v = refl
   is-echo false true = refl
   is-echo false false = refl
 
-  is-vote : (e v : Bool) → eqb (getD (putOut e v p f r) 0 0) 3 ≡ not e && v
+  pub is-vote : (e v : Bool) → eqb (getD (putOut e v p f r) 0 0) 3 ≡ not e && v
   unfolding putOut pick recordOf
   is-vote true v = refl
   is-vote false true = refl
@@ -74,7 +74,7 @@ module _ (s : List ℕ) (from : ℕ) (r o d : List ℕ) (k p f : ℕ) (t : Taken
   unfolding takenOf
   flags-left = marks-left s from r o d k p f t ok
 
-  put-is : putOutBy y ≡ putOut (eqb k 1 && ok) (voting s from r p f ok k) p f r
+  pub put-is : putOutBy y ≡ putOut (eqb k 1 && ok) (voting s from r p f ok k) p f r
   unfolding takenOf saidBy
   put-is = front-of (saidBy ok k p f from r s) o (omega (arith, said-short s from r p f ok o d k t, t .out))
 
@@ -168,10 +168,20 @@ no-delivery : (s : List ℕ) (from : ℕ) (r o d : List ℕ) (q : ℕ) → deliv
 unfolding byPlan
 no-delivery s from r o d q = refl
 
+-- any step
+pub echo-steps : (s : List ℕ) (from : ℕ) (r o d : List ℕ) → OnlyOnce (λ (m : Marks). m .acquired) (isPut 2) s (stepOf s from r o d)
+echo-steps s from r o d = once-by s from r o d (λ (m : Marks). m .acquired) (isPut 2) (λ q. no-put s from r o d q 2 refl) (λ k p f t. echo-once s from r o d k p f t)
+
+pub vote-steps : (s : List ℕ) (from : ℕ) (r o d : List ℕ) → OnlyOnce (λ (m : Marks). m .voted) (isPut 3) s (stepOf s from r o d)
+vote-steps s from r o d = once-by s from r o d (λ (m : Marks). m .voted) (isPut 3) (λ q. no-put s from r o d q 3 refl) (λ k p f t. vote-once s from r o d k p f t)
+
+pub delivery-steps : (s : List ℕ) (from : ℕ) (r o d : List ℕ) → OnlyOnce (λ (m : Marks). m .done) delivers s (stepOf s from r o d)
+delivery-steps s from r o d = once-by s from r o d (λ (m : Marks). m .done) delivers (no-delivery s from r o d) (λ k p f t. delivery-once s from r o d k p f t)
+
 -- "records put out (in total at most one echo and one vote)", and one delivery, whatever the items are
 pub one-of-each : (items : List Item) (x : Emptied) → OneOfEach items x
 one-of-each items x = record {
-  echo = at-most-one (λ (m : Marks). m .acquired) (isPut 2) (λ s from r o d. once-by s from r o d (λ (m : Marks). m .acquired) (isPut 2) (λ q. no-put s from r o d q 2 refl) (λ k p f t. echo-once s from r o d k p f t)) 0 items x;
-  vote = at-most-one (λ (m : Marks). m .voted) (isPut 3) (λ s from r o d. once-by s from r o d (λ (m : Marks). m .voted) (isPut 3) (λ q. no-put s from r o d q 3 refl) (λ k p f t. vote-once s from r o d k p f t)) 0 items x;
-  delivery = at-most-one (λ (m : Marks). m .done) delivers (λ s from r o d. once-by s from r o d (λ (m : Marks). m .done) delivers (no-delivery s from r o d) (λ k p f t. delivery-once s from r o d k p f t)) 0 items x;
+  echo = at-most-one (λ (m : Marks). m .acquired) (isPut 2) echo-steps 0 items x;
+  vote = at-most-one (λ (m : Marks). m .voted) (isPut 3) vote-steps 0 items x;
+  delivery = at-most-one (λ (m : Marks). m .done) delivers delivery-steps 0 items x;
 }

@@ -35,7 +35,7 @@ module _ (b : Table) (limited : limits b ≡ true) (lent : ℕ → Desk) (keeps 
   passed j kj bd i β q = let (d, e) = started j kj bd q in ap (λ (o : Option Desk). sees o (hand i β)) e
 
   module _ (r : Run BB) (j : ℕ) (kj : T (keeps j)) (d : Desk) (here : state BB r j ≡ some d) where
-    held : Holds b j d (state (broadcast b) (project BB (broadcast b) sees r) j)
+    pub held : Holds b j d (state (broadcast b) (project BB (broadcast b) sees r) j)
     unfolding carries lifted lifts
     held = subst (λ o. showsBy (Holds b) j o (state (broadcast b) (project BB (broadcast b) sees r) j)) here (shows (carries b limited lent keeps roomy) r j kj)
 
