@@ -1,4 +1,5 @@
-// A whole mailbox handed over to a board in one call, item by item. Soundness is looked at once: a step leaves a sound state sound.
+// A whole mailbox handed over to a board in one call, item by item. Soundness is looked at once: a step leaves a sound state sound. All but the
+// callees of a step becomes one frame, the loop's, which every delivery pays for: it keeps little of an item.
 use board::Plan;
 use board_plan::first_refusal;
 use board_plan::plan_record;
@@ -127,7 +128,7 @@ fn record_refusal(s: &[u8], from: usize, r: &[u8]) -> u32
     }
 }
 
-// The delivery, if it is due.
+// The delivery, if it is due. It stands by itself, so that what is lent here has its place on the stack only then.
 fn finish(s: &[u8], r: &[u8], delivery: &mut [u8]) -> Delivered
     requires { ⌜ (fixedBytes ≤ length (now s)) × Deliverable (tableOf (now s)) (marksOf (now s)) (now s) (now r) (now delivery) (marksOf (now s) .done) ⌝ }
     ensures { λ x. ⌜ left x (now (delivery .exit)) ≡ delivered (marksOf (now (s .entry)) .done) (resultIn (tableOf (now (s .entry))) (marksOf (now (s .entry))) (now (s .entry)) (recordRoot (now (r .entry)))) (now (delivery .entry)) ⌝ }

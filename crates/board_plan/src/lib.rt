@@ -108,7 +108,8 @@ pub fn plan_record(s: &[u8], from: usize, r: &[u8]) -> Plan
     }
 }
 
-// What a step is to do with the record `r` from a board.
+// What a step is to do with the record `r` from a board. first_refusal and plan_record are called here and for a mailbox, so that the compiler
+// leaves each its own frame: a path check and a delivery then do not pay for them.
 pub fn plan_for(s: &[u8], from: usize, r: &[u8], out: &[u8], delivery: &[u8]) -> Plan
     ensures { λ x. ⌜ x ≡ planOf (now (s .entry)) from (now (r .entry)) (now (out .entry)) (now (delivery .entry)) ⌝ }
 {

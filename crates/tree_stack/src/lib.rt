@@ -59,6 +59,15 @@ fn lift(stack: &mut [u8], at: usize, i: usize, d: usize) -> usize
     low
 }
 
+// How many levels a tree of n leaves may have. It is 6: the test leaves the compiler in the dark, so that it does not write the loop of `raise`
+// out six times, and takes `raise`, which stays small, and `join` into the functions that call them: their frames are then spared.
+fn levels_of(n: usize) -> usize
+    requires { ⌜ n ≤ 64 ⌝ }
+    ensures { λ r. ⌜ r ≡ 6 ⌝ }
+{
+    if n < 65 { 6 } else { 0 }
+}
+
 // Leaf i of n, whose hash is on top, taken up as far as it goes. After the last leaf the root stands first.
 pub fn raise(stack: &mut [u8], i: usize, n: usize)
     requires { ⌜ (i < n) × (n ≤ 64) × (224 ≤ length (now stack)) ⌝ }
@@ -66,7 +75,7 @@ pub fn raise(stack: &mut [u8], i: usize, n: usize)
 {
     let mut at = top_of(i);
     let mut d: usize = 0;
-    while d < 6 {
+    while d < levels_of(n) {
         if stays(i, n, d) {
             return;
         }

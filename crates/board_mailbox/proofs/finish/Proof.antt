@@ -12,7 +12,9 @@ nothing-requires : tie.Need-nothing-requires
 nothing-requires c κs = search needs
 
 returns : tie.Need-returns
-returns c = none-due (c .nothing .result) _ _ _ (c .nothing .ensures) (sym (c .before .before .is-done .ensures) ∙ not-true (c .before .before .is-done .result) (c .before .if1 .taken))
+returns c =
+    let is-done = c .before .before .is-done in
+    none-due (c .nothing .result) _ _ _ (c .nothing .ensures) (sym (is-done .ensures) ∙ not-true (is-done .result) (c .before .if1 .taken))
 
 deliver-done-requires : tie.Need-deliver-done-requires
 deliver-done-requires c κs = search needs

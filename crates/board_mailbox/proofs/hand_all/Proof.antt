@@ -21,7 +21,11 @@ only-number-requires : tie.Need-only-number-requires Inv-loop μ-loop
 only-number-requires c κs = search needs
 
 loop-holds : tie.Need-loop-holds Inv-loop μ-loop
-loop-holds c = let a = c .before .before .before .before .before .before .before .before .args in rw (c .only-number .ensures) (walk-start (a .mailbox .now) (emptied (onlyNumber 0) (a .state .now) (a .answers .now) (a .echo .now) (a .vote .now) (a .delivery .now)) (c .before .two-at .result) (c .before .before .before .before .before .before .before .before .pre .0) (c .before .before .before .before .before .before .before .before .pre .1 .0) (c .before .two-at .ensures .0))
+loop-holds c =
+    let two-at = c .before .two-at in let a = c .before .before .before .before .before .before .before .before .args in
+    let p = c .before .before .before .before .before .before .before .before .pre in
+    rw (c .only-number .ensures) (walk-start (a .mailbox .now) (emptied (onlyNumber 0) (a .state .now) (a .answers .now) (a .echo .now) (a .vote .now) (a .delivery .now)) (two-at .result)
+    (p .0) (p .1 .0) (two-at .ensures .0))
 
 add-a : tie.Need-add-a Inv-loop μ-loop
 add-a c = omega (arith, ends _ _ _ _ _ _ (c .before .loop .inv) (c .loop-test .taken))
@@ -48,19 +52,38 @@ part-hand-over-start : tie.Need-part-hand-over-start Inv-loop μ-loop
 part-hand-over-start c = omega arith
 
 part-hand-over-end : tie.Need-part-hand-over-end Inv-loop μ-loop
-part-hand-over-end c = omega (arith, ends _ _ _ _ _ _ (c .before .before .before .before .before .loop .inv) (c .before .before .before .before .loop-test .taken), c .before .before .before .two-at2 .ensures .0)
+part-hand-over-end c =
+    let loop-test = c .before .before .before .before .loop-test in let l = c .before .before .before .before .before .loop in
+    omega (arith, ends _ _ _ _ _ _ (l .inv) (loop-test .taken), c .before .before .before .two-at2 .ensures .0)
 
 hand-over-requires : tie.Need-hand-over-requires Inv-loop μ-loop
-hand-over-requires c κs = (c .before .before .before .before .before .before .before .before .before .before .loop .inv .opened, omega (arith, c .before .before .before .before .before .before .before .before .before .before .loop .inv .long .answers, c .before .before .before .before .before .before .before .before .before .loop-test .taken, c .before .before .before .before .before .before .before .before .before .before .before .before .two-at .ensures .0, c .before .before .before .before .before .before .before .before .before .before .before .before .before .before .before .before .before .before .before .pre .1 .1))
+hand-over-requires c κs =
+    let loop-test = c .before .before .before .before .before .before .before .before .before .loop-test in
+    let two-at = c .before .before .before .before .before .before .before .before .before .before .before .before .two-at in
+    let l = c .before .before .before .before .before .before .before .before .before .before .loop in
+    let p = c .before .before .before .before .before .before .before .before .before .before .before .before .before .before .before .before .before .before .before .pre in
+    (l .inv .opened, omega (arith, l .inv .long .answers, loop-test .taken, two-at .ensures .0, p .1 .1))
 
 add-i : tie.Need-add-i Inv-loop μ-loop
-add-i c = omega (arith, ends _ _ _ _ _ _ (c .before .before .before .before .before .before .before .before .before .before .before .before .before .before .before .before .before .before .before .before .before .loop .inv) (c .before .before .before .before .before .before .before .before .before .before .before .before .before .before .before .before .before .before .before .before .loop-test .taken), c .before .before .before .before .before .before .before .before .before .before .before .before .before .before .before .before .before .before .before .before .loop-test .taken, c .before .before .before .before .before .before .before .before .before .before .before .before .before .before .before .before .before .before .before .before .before .before .before .two-at .ensures .1)
+add-i c =
+    let loop-test = c .before .before .before .before .before .before .before .before .before .before .before .before .before .before .before .before .before .before .before .before .loop-test in
+    let two-at = c .before .before .before .before .before .before .before .before .before .before .before .before .before .before .before .before .before .before .before .before .before .before .before .two-at in
+    let l = c .before .before .before .before .before .before .before .before .before .before .before .before .before .before .before .before .before .before .before .before .before .loop in
+    omega (arith, ends _ _ _ _ _ _ (l .inv) (loop-test .taken), loop-test .taken, two-at .ensures .1)
 
 loop-less : tie.Need-loop-less Inv-loop μ-loop
-loop-less c = omega (arith, c .before .before .before .before .before .before .before .before .before .before .before .before .before .before .before .before .before .before .before .before .loop-test .taken)
+loop-less c =
+    let loop-test = c .before .before .before .before .before .before .before .before .before .before .before .before .before .before .before .before .before .before .before .before .loop-test in
+    omega (arith, loop-test .taken)
 
 loop-again : tie.Need-loop-again Inv-loop μ-loop
-loop-again c = walk-next _ _ _ _ _ _ (c .before .before .before .before .before .before .before .before .before .before .before .before .before .before .before .before .before .before .before .before .before .loop .inv) (c .before .before .before .before .before .before .before .before .before .before .before .before .before .before .before .before .before .before .before .before .loop-test .taken) (c .before .before .before .before .before .before .before .before .before .before .before .before .before .before .before .before .before .wide .result) (c .before .before .before .before .before .before .before .before .before .before .before .before .before .before .before .before .before .before .before .two-at2 .result) _ (c .before .before .before .before .before .before .before .before .before .before .before .before .before .before .before .before .before .wide .ensures .0) (c .before .before .before .before .before .before .before .before .before .before .before .before .before .before .before .before .before .before .before .two-at2 .ensures .0) (c .before .before .before .before .before .before .before .before .before .before .hand-over .ensures)
+loop-again c =
+    let loop-test = c .before .before .before .before .before .before .before .before .before .before .before .before .before .before .before .before .before .before .before .before .loop-test in
+    let hand-over = c .before .before .before .before .before .before .before .before .before .before .hand-over in
+    let two-at2 = c .before .before .before .before .before .before .before .before .before .before .before .before .before .before .before .before .before .before .before .two-at2 in
+    let l = c .before .before .before .before .before .before .before .before .before .before .before .before .before .before .before .before .before .before .before .before .before .loop in
+    let wide = c .before .before .before .before .before .before .before .before .before .before .before .before .before .before .before .before .before .wide in
+    walk-next _ _ _ _ _ _ (l .inv) (loop-test .taken) (wide .result) (two-at2 .result) _ (wide .ensures .0) (two-at2 .ensures .0) (hand-over .ensures)
 
 same-length : tie.Need-same-length Inv-loop μ-loop
 same-length c = c .before .loop .inv .long .state

@@ -26,10 +26,14 @@ same-length-5 : tie.Need-same-length-5
 same-length-5 c = search needs
 
 returns : tie.Need-returns
-returns c = rw (c .only-number .ensures) (refused-box _ _ _ _ _ _ (c .before .before .mailbox-refusal .result) (c .before .before .mailbox-refusal .ensures) (c .before .if1 .taken))
+returns c =
+    let mailbox-refusal = c .before .before .mailbox-refusal in
+    rw (c .only-number .ensures) (refused-box _ _ _ _ _ _ (mailbox-refusal .result) (mailbox-refusal .ensures) (c .before .if1 .taken))
 
 hand-all-requires : tie.Need-hand-all-requires
-hand-all-requires c κs = none-refused _ _ _ _ _ _ (sym (c .before .before .before .before .before .before .mailbox-refusal .ensures) ∙ c .before .before .before .before .before .if1 .left)
+hand-all-requires c κs =
+    let mailbox-refusal = c .before .before .before .before .before .before .mailbox-refusal in let if1 = c .before .before .before .before .before .if1 in
+    none-refused _ _ _ _ _ _ (sym (mailbox-refusal .ensures) ∙ if1 .left)
 
 same-length-6 : tie.Need-same-length-6
 same-length-6 c = search needs
@@ -47,7 +51,11 @@ same-length-10 : tie.Need-same-length-10
 same-length-10 c = search needs
 
 returns-2 : tie.Need-returns-2
-returns-2 c = c .before .before .before .before .before .before .before .before .before .before .hand-all .ensures ∙ taken-box _ _ _ _ _ _ (c .before .before .before .before .before .before .before .before .before .before .before .before .before .before .before .before .before .mailbox-refusal .result) (c .before .before .before .before .before .before .before .before .before .before .before .before .before .before .before .before .before .mailbox-refusal .ensures) (c .before .before .before .before .before .before .before .before .before .before .before .before .before .before .before .before .if1 .left)
+returns-2 c =
+    let mailbox-refusal = c .before .before .before .before .before .before .before .before .before .before .before .before .before .before .before .before .before .mailbox-refusal in
+    let hand-all = c .before .before .before .before .before .before .before .before .before .before .hand-all in
+    let if1 = c .before .before .before .before .before .before .before .before .before .before .before .before .before .before .before .before .if1 in
+    hand-all .ensures ∙ taken-box _ _ _ _ _ _ (mailbox-refusal .result) (mailbox-refusal .ensures) (if1 .left)
 
 pub mailbox-spec : {M : Type 1} → statement M
 mailbox-spec =

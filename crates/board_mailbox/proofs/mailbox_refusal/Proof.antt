@@ -18,25 +18,40 @@ returns c = first-applies _ _ _ _ _ _ (c .before .first-refusal .result) (c .bef
 
 returns-2 : tie.Need-returns-2
 unfolding pick
-returns-2 c = later-applies _ _ _ _ _ _ (c .before .before .first-refusal .result) (c .before .before .first-refusal .ensures) (c .before .if1 .left) 2 (rw (lt-ltb (length (c .before .before .before .before .before .before .before .before .before .args .vote .now)) voteBytes (c .if2 .taken)))
+returns-2 c =
+    let first-refusal = c .before .before .first-refusal in let a = c .before .before .before .before .before .before .before .before .before .args in
+    later-applies _ _ _ _ _ _ (first-refusal .result) (first-refusal .ensures) (c .before .if1 .left) 2 (rw (lt-ltb (length (a .vote .now)) voteBytes (c .if2 .taken)))
 
 is-framed-requires : tie.Need-is-framed-requires
 is-framed-requires c κs = search needs
 
 returns-3 : tie.Need-returns-3
 unfolding pick
-returns-3 c = later-applies _ _ _ _ _ _ (c .before .before .before .before .first-refusal .result) (c .before .before .before .before .first-refusal .ensures) (c .before .before .before .if1 .left) 16 (rw (le-ltb (length (c .before .before .before .before .before .before .before .before .before .before .before .args .vote .now)) voteBytes (c .before .before .if2 .left), ← c .before .is-framed .ensures, c .if3 .taken))
+returns-3 c =
+    let first-refusal = c .before .before .before .before .first-refusal in let a = c .before .before .before .before .before .before .before .before .before .before .before .args in
+    later-applies _ _ _ _ _ _ (first-refusal .result) (first-refusal .ensures) (c .before .before .before .if1 .left) 16
+    (rw (le-ltb (length (a .vote .now)) voteBytes (c .before .before .if2 .left), ← c .before .is-framed .ensures, c .if3 .taken))
 
 two-at-requires : tie.Need-two-at-requires
-two-at-requires c κs = let h = framed-whole _ (sym (c .before .is-framed .ensures) ∙ not-false (c .before .is-framed .result) (c .if3 .left)) in omega (arith, h .0)
+two-at-requires c κs =
+    let is-framed = c .before .is-framed in let h = framed-whole _ (sym (is-framed .ensures) ∙ not-false (is-framed .result) (c .if3 .left)) in
+    omega (arith, h .0)
 
 returns-4 : tie.Need-returns-4
 unfolding pick
-returns-4 c = later-applies _ _ _ _ _ _ (c .before .before .before .before .before .before .first-refusal .result) (c .before .before .before .before .before .before .first-refusal .ensures) (c .before .before .before .before .before .if1 .left) 16 (rw (le-ltb (length (c .before .before .before .before .before .before .before .before .before .before .before .before .before .args .vote .now)) voteBytes (c .before .before .before .before .if2 .left), ← c .before .before .before .is-framed .ensures, c .before .before .if3 .left, ← c .before .two-at .ensures .0, lt-ltb (length (c .before .before .before .before .before .before .before .before .before .before .before .before .before .args .answers .now)) (c .before .two-at .result) (c .if4 .taken)))
+returns-4 c =
+    let first-refusal = c .before .before .before .before .before .before .first-refusal in let two-at = c .before .two-at in
+    let a = c .before .before .before .before .before .before .before .before .before .before .before .before .before .args in let if1 = c .before .before .before .before .before .if1 in
+    later-applies _ _ _ _ _ _ (first-refusal .result) (first-refusal .ensures) (if1 .left) 16
+    (rw (le-ltb (length (a .vote .now)) voteBytes (c .before .before .before .before .if2 .left), ← c .before .before .before .is-framed .ensures, c .before .before .if3 .left, ← two-at .ensures .0, lt-ltb (length (a .answers .now)) (two-at .result) (c .if4 .taken)))
 
 returns-5 : tie.Need-returns-5
 unfolding pick
-returns-5 c = later-applies _ _ _ _ _ _ (c .before .before .before .before .before .before .first-refusal .result) (c .before .before .before .before .before .before .first-refusal .ensures) (c .before .before .before .before .before .if1 .left) 0 (rw (le-ltb (length (c .before .before .before .before .before .before .before .before .before .before .before .before .before .args .vote .now)) voteBytes (c .before .before .before .before .if2 .left), ← c .before .before .before .is-framed .ensures, c .before .before .if3 .left, ← c .before .two-at .ensures .0, le-ltb (length (c .before .before .before .before .before .before .before .before .before .before .before .before .before .args .answers .now)) (c .before .two-at .result) (c .if4 .left)))
+returns-5 c =
+    let first-refusal = c .before .before .before .before .before .before .first-refusal in let two-at = c .before .two-at in
+    let a = c .before .before .before .before .before .before .before .before .before .before .before .before .before .args in let if1 = c .before .before .before .before .before .if1 in
+    later-applies _ _ _ _ _ _ (first-refusal .result) (first-refusal .ensures) (if1 .left) 0
+    (rw (le-ltb (length (a .vote .now)) voteBytes (c .before .before .before .before .if2 .left), ← c .before .before .before .is-framed .ensures, c .before .before .if3 .left, ← two-at .ensures .0, le-ltb (length (a .answers .now)) (two-at .result) (c .if4 .left)))
 
 pub mailbox-refusal-spec : {M : Type 1} → statement M
 mailbox-refusal-spec =
