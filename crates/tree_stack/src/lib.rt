@@ -65,7 +65,7 @@ fn levels_of(n: usize) -> usize
     requires { ⌜ n ≤ 64 ⌝ }
     ensures { λ r. ⌜ r ≡ 6 ⌝ }
 {
-    if n < 65 { 6 } else { 0 }
+    if n < 65 { 6 } else { 7 }
 }
 
 // Leaf i of n, whose hash is on top, taken up as far as it goes. After the last leaf the root stands first.
