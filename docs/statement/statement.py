@@ -21,6 +21,8 @@ from terms import read
 STATEMENT = [
     ("line_demand", "proofs.Demand", "demand-three"),
     ("line_demand", "specs.Demand", "DemandThree"),
+    ("line_mailbox", "proofs.Demand", "demand-three-polled"),
+    ("line_mailbox", "specs.Demand", "DemandThreePolled"),
 ]
 
 # The crates whose functions C calls, each a part of the page.

@@ -27,8 +27,7 @@ use Rattle.line_demand.proofs.Carry.{begun-some}
 use Rattle.line_demand.proofs.Reached.{started, held}
 use Rattle.line_demand.specs.Demand.{DemandThree}
 use Rattle.line_demand.proofs.Demand.{demand-three}
-use Rattle.line_mailbox.specs.Polls as Polls
-use Rattle.line_mailbox.specs.Polls.{Polls, Trays, mailboxIn, emptiedTo, pollPuts, pollGives, itemsTaken, PutBy, GaveBy, TookBy, handEach, singly, FairBy, OverBy}
+use Rattle.line_mailbox.specs.Polls.{Polls, Trays, mailboxIn, emptiedTo, pollPuts, pollGives, itemsTaken, deskAt, PutBy, GaveBy, TookBy, handEach, singly, FairBy, OverBy}
 use Rattle.line_mailbox.specs.Demand.{DemandThreePolled}
 use Rattle.line_mailbox.proofs.Alike.{Alike, alike, put-alike}
 use Rattle.line_mailbox.proofs.Items.{kept-each, given-each, last-given, Level, level-all, put-of, put-why, given-of, given-why}
@@ -165,7 +164,7 @@ module _ (b : Table) (limited : limits b ≡ true) (lent : ℕ → Desk) (keeps 
 
   -- ---- at every point of a history
 
-  module _ (p : Polls) (k : ℕ) (kk : T (keeps k)) (s : SameAs (Polls.held b lent p k) (state BB (runOf p) k)) where
+  module _ (p : Polls) (k : ℕ) (kk : T (keeps k)) (s : SameAs (deskAt b lent p k) (state BB (runOf p) k)) where
     theirs-long : outBytes ≤ length (s .theirs .out)
     theirs-long = held b limited lent keeps roomy (runOf p) k kk (s .theirs) (s .there) .out
 
@@ -174,12 +173,12 @@ module _ (b : Table) (limited : limits b ≡ true) (lent : ℕ → Desk) (keeps 
         let so = held b limited lent keeps roomy (runOf p) k kk (s .theirs) (s .there) .is-sound in
         stays (s .mine .state) i r (s .mine .out) (s .mine .delivery) (rw (s .state-same) at so) .out
 
-    next-same : (x : Input Lend (List ℕ)) → SameAs (next (fragmentBoard b) (Polls.held b lent p k) x) (next (fragmentBoard b) (state BB (runOf p) k) x)
-    next-same (tell l) = lend-same (Polls.held b lent p k) (state BB (runOf p) k) s l
-    next-same (hand i r) = hand-same (Polls.held b lent p k) (state BB (runOf p) k) s theirs-long i r (out-stays i r)
+    next-same : (x : Input Lend (List ℕ)) → SameAs (next (fragmentBoard b) (deskAt b lent p k) x) (next (fragmentBoard b) (state BB (runOf p) k) x)
+    next-same (tell l) = lend-same (deskAt b lent p k) (state BB (runOf p) k) s l
+    next-same (hand i r) = hand-same (deskAt b lent p k) (state BB (runOf p) k) s theirs-long i r (out-stays i r)
 
     -- a single step puts out and delivers the same
-    puts-same : (x : Input Lend (List ℕ)) (j l : ℕ) → puts (fragmentBoard b) (Polls.held b lent p k) x j ≡ puts (fragmentBoard b) (state BB (runOf p) k) x l
+    puts-same : (x : Input Lend (List ℕ)) (j l : ℕ) → puts (fragmentBoard b) (deskAt b lent p k) x j ≡ puts (fragmentBoard b) (state BB (runOf p) k) x l
     unfolding puts called pick
     puts-same (tell z) j l =
         ap (λ (o : Option Desk). puts (fragmentBoard b) o (tell z) j) (s .here) ∙ sym (ap (λ (o : Option Desk). puts (fragmentBoard b) o (tell z) l) (s .there))
@@ -190,11 +189,11 @@ module _ (b : Table) (limited : limits b ≡ true) (lent : ℕ → Desk) (keeps 
         go : (c : Bool) → bytes r ≡ c
             → pick c (fragmentBoard b .step (s .mine) i r) (untouched (fragmentBoard b) (s .mine)) .put j ≡ pick c (fragmentBoard b .step (s .theirs) i r) (untouched (fragmentBoard b) (s .theirs)) .put l
         go true e =
-            ap putIn (sym (by-mine (Polls.held b lent p k) (state BB (runOf p) k) s theirs-long i r))
+            ap putIn (sym (by-mine (deskAt b lent p k) (state BB (runOf p) k) s theirs-long i r))
             ∙ sym (put-alike b k (s .theirs) _ (held b limited lent keeps roomy (runOf p) k kk (s .theirs) (s .there)) i r e (s .mine .out) (s .out))
         go false e = refl
 
-    gives-same : (x : Input Lend (List ℕ)) → gives (fragmentBoard b) (Polls.held b lent p k) x ≡ gives (fragmentBoard b) (state BB (runOf p) k) x
+    gives-same : (x : Input Lend (List ℕ)) → gives (fragmentBoard b) (deskAt b lent p k) x ≡ gives (fragmentBoard b) (state BB (runOf p) k) x
     unfolding gives called pick
     gives-same (tell z) = ap (λ (o : Option Desk). gives (fragmentBoard b) o (tell z)) (s .here) ∙ sym (ap (λ (o : Option Desk). gives (fragmentBoard b) o (tell z)) (s .there))
     gives-same (hand i r) =
@@ -203,7 +202,7 @@ module _ (b : Table) (limited : limits b ≡ true) (lent : ℕ → Desk) (keeps 
       where
         go : (c : Bool) → pick c (fragmentBoard b .step (s .mine) i r) (untouched (fragmentBoard b) (s .mine)) .given
             ≡ pick c (fragmentBoard b .step (s .theirs) i r) (untouched (fragmentBoard b) (s .theirs)) .given
-        go true = sym (given-same (Polls.held b lent p k) (state BB (runOf p) k) s theirs-long i r)
+        go true = sym (given-same (deskAt b lent p k) (state BB (runOf p) k) s theirs-long i r)
         go false = refl
 
     -- a mailbox
@@ -211,7 +210,7 @@ module _ (b : Table) (limited : limits b ≡ true) (lent : ℕ → Desk) (keeps 
       call : Emptying (s .mine) box t
       call = emptying (s .mine) (s .out) box t
 
-      items-are : itemsTaken (Polls.held b lent p k) box t ≡ call .items
+      items-are : itemsTaken (deskAt b lent p k) box t ≡ call .items
       items-are = ap (λ (o : Option Desk). itemsTaken o box t) (s .here) ∙ call .taken
 
       level : Level b limited lent keeps roomy k kk (runOf p) (call .from)
@@ -223,7 +222,7 @@ module _ (b : Table) (limited : limits b ≡ true) (lent : ℕ → Desk) (keeps 
         echo = call .echo;
       }
 
-      poll-same : SameAs (emptiedTo (Polls.held b lent p k) box t) (state BB (handEach b lent (runOf p) k (itemsTaken (Polls.held b lent p k) box t)) k)
+      poll-same : SameAs (emptiedTo (deskAt b lent p k) box t) (state BB (handEach b lent (runOf p) k (itemsTaken (deskAt b lent p k) box t)) k)
       poll-same =
           let l = level-all b limited lent keeps roomy k kk 0 (call .items) (call .of-bytes) (runOf p) (call .from) level in
           record {
@@ -236,8 +235,8 @@ module _ (b : Table) (limited : limits b ≡ true) (lent : ℕ → Desk) (keeps 
             out = s .out;
           }
 
-  same : (p : Polls) (j : ℕ) → T (keeps j) → SameAs (Polls.held b lent p j) (state BB (runOf p) j)
-  unfolding Polls.held singly state pick
+  same : (p : Polls) (j : ℕ) → T (keeps j) → SameAs (deskAt b lent p j) (state BB (runOf p) j)
+  unfolding deskAt singly state pick
   same Polls.started j kj =
       let (d, e) = begun-some b j (lent j) (roomy j kj) limited (known j kj) in
       record {
@@ -251,20 +250,20 @@ module _ (b : Table) (limited : limits b ≡ true) (lent : ℕ → Desk) (keeps 
       }
   same (Polls.took p k x) j kj = go (same p j kj) (eqb k j)
     where
-      go : SameAs (Polls.held b lent p j) (state BB (runOf p) j) → (c : Bool)
-          → SameAs (pick c (next (fragmentBoard b) (Polls.held b lent p j) x) (Polls.held b lent p j)) (pick c (next (fragmentBoard b) (state BB (runOf p) j) x) (state BB (runOf p) j))
+      go : SameAs (deskAt b lent p j) (state BB (runOf p) j) → (c : Bool)
+          → SameAs (pick c (next (fragmentBoard b) (deskAt b lent p j) x) (deskAt b lent p j)) (pick c (next (fragmentBoard b) (state BB (runOf p) j) x) (state BB (runOf p) j))
       go s true = next-same p j kj s x
       go s false = s
   same (Polls.polled p k box t) j kj = elim (ℕ-discrete k j) [ yes e ↦ own (same p j kj) e | no n ↦ another (same p j kj) n ]
     where
       After : ℕ → Type 0
-      After a = SameAs (pick (eqb a j) (emptiedTo (Polls.held b lent p j) box t) (Polls.held b lent p j)) (state BB (handEach b lent (runOf p) a (itemsTaken (Polls.held b lent p a) box t)) j)
+      After a = SameAs (pick (eqb a j) (emptiedTo (deskAt b lent p j) box t) (deskAt b lent p j)) (state BB (handEach b lent (runOf p) a (itemsTaken (deskAt b lent p a) box t)) j)
 
-      own : SameAs (Polls.held b lent p j) (state BB (runOf p) j) → k ≡ j → After k
+      own : SameAs (deskAt b lent p j) (state BB (runOf p) j) → k ≡ j → After k
       own s e = subst After (sym e) (rw (eq-eqb j j refl) (poll-same p j kj s box t))
 
-      another : SameAs (Polls.held b lent p j) (state BB (runOf p) j) → (k ≡ j → ⊥) → After k
-      another s n = rw (ne-eqb k j n, other-state (itemsTaken (Polls.held b lent p k) box t) (runOf p) k j n) s
+      another : SameAs (deskAt b lent p j) (state BB (runOf p) j) → (k ≡ j → ⊥) → After k
+      another s n = rw (ne-eqb k j n, other-state (itemsTaken (deskAt b lent p k) box t) (runOf p) k j n) s
 
   -- ---- what is put out
 
@@ -279,7 +278,7 @@ module _ (b : Table) (limited : limits b ≡ true) (lent : ℕ → Desk) (keeps 
         (put-of b limited lent keeps roomy i ki 0 (c .items) (c .of-bytes) (runOf p) (c .from) (level p i ki s box t) j ρ
         (c .puts-why ρ (subst (λ o. List·Memᴰ ρ (pollPuts o box t)) (s .here) m)))
     put-to (PutBy.before-take q) j = Put.then (put-to q j)
-    put-to (PutBy.before-poll {p} {k} {box} {t} q) j = kept-each b lent (itemsTaken (Polls.held b lent p k) box t) k (put-to q j)
+    put-to (PutBy.before-poll {p} {k} {box} {t} q) j = kept-each b lent (itemsTaken (deskAt b lent p k) box t) k (put-to q j)
 
     put-from : (p : Polls) (j : ℕ) → Put BB i j ρ (runOf p) → PutBy b lent i ρ p
     unfolding singly
@@ -289,12 +288,12 @@ module _ (b : Table) (limited : limits b ≡ true) (lent : ℕ → Desk) (keeps 
       | inr (e, q) ↦ subst (λ a. PutBy b lent i ρ (Polls.took p a x)) (sym e) (PutBy.step j (puts-same p i ki (same p i ki) x j j ∙ q))
     ]
     put-from (Polls.polled p k box t) j q = elim (ℕ-discrete k i) [
-      | no n ↦ PutBy.before-poll (put-from p j (other-put (itemsTaken (Polls.held b lent p k) box t) (runOf p) k i j ρ n q))
+      | no n ↦ PutBy.before-poll (put-from p j (other-put (itemsTaken (deskAt b lent p k) box t) (runOf p) k i j ρ n q))
       | yes e ↦ subst (λ a. PutBy b lent i ρ (Polls.polled p a box t)) (sym e)
-          (own (put-from p j) (subst (λ a. Put BB i j ρ (handEach b lent (runOf p) a (itemsTaken (Polls.held b lent p a) box t))) e q))
+          (own (put-from p j) (subst (λ a. Put BB i j ρ (handEach b lent (runOf p) a (itemsTaken (deskAt b lent p a) box t))) e q))
     ]
       where
-        own : (Put BB i j ρ (runOf p) → PutBy b lent i ρ p) → Put BB i j ρ (handEach b lent (runOf p) i (itemsTaken (Polls.held b lent p i) box t)) → PutBy b lent i ρ (Polls.polled p i box t)
+        own : (Put BB i j ρ (runOf p) → PutBy b lent i ρ p) → Put BB i j ρ (handEach b lent (runOf p) i (itemsTaken (deskAt b lent p i) box t)) → PutBy b lent i ρ (Polls.polled p i box t)
         own before q =
             let s = same p i ki in
             let c = call p i ki s box t in
@@ -317,7 +316,7 @@ module _ (b : Table) (limited : limits b ≡ true) (lent : ℕ → Desk) (keeps 
         (given-of b limited lent keeps roomy j kj 0 (c .items) (c .of-bytes) (runOf p) (c .from) (level p j kj s box t) d
         (c .gives-why d (ap (λ (o : Option Desk). pollGives o box t) (sym (s .here)) ∙ e)))
     gave-to (GaveBy.before-take q) = Delivered.then (gave-to q)
-    gave-to (GaveBy.before-poll {p} {k} {box} {t} q) = given-each b lent (itemsTaken (Polls.held b lent p k) box t) k (gave-to q)
+    gave-to (GaveBy.before-poll {p} {k} {box} {t} q) = given-each b lent (itemsTaken (deskAt b lent p k) box t) k (gave-to q)
 
     gave-from : (p : Polls) → Delivered BB j d (runOf p) → GaveBy b lent j d p
     unfolding singly
@@ -327,12 +326,12 @@ module _ (b : Table) (limited : limits b ≡ true) (lent : ℕ → Desk) (keeps 
       | inr (e, q) ↦ subst (λ a. GaveBy b lent j d (Polls.took p a x)) (sym e) (GaveBy.step (gives-same p j kj (same p j kj) x ∙ q))
     ]
     gave-from (Polls.polled p k box t) q = elim (ℕ-discrete k j) [
-      | no n ↦ GaveBy.before-poll (gave-from p (other-given (itemsTaken (Polls.held b lent p k) box t) (runOf p) k j d n q))
+      | no n ↦ GaveBy.before-poll (gave-from p (other-given (itemsTaken (deskAt b lent p k) box t) (runOf p) k j d n q))
       | yes e ↦ subst (λ a. GaveBy b lent j d (Polls.polled p a box t)) (sym e)
-          (own (gave-from p) (subst (λ a. Delivered BB j d (handEach b lent (runOf p) a (itemsTaken (Polls.held b lent p a) box t))) e q))
+          (own (gave-from p) (subst (λ a. Delivered BB j d (handEach b lent (runOf p) a (itemsTaken (deskAt b lent p a) box t))) e q))
     ]
       where
-        own : (Delivered BB j d (runOf p) → GaveBy b lent j d p) → Delivered BB j d (handEach b lent (runOf p) j (itemsTaken (Polls.held b lent p j) box t)) → GaveBy b lent j d (Polls.polled p j box t)
+        own : (Delivered BB j d (runOf p) → GaveBy b lent j d p) → Delivered BB j d (handEach b lent (runOf p) j (itemsTaken (deskAt b lent p j) box t)) → GaveBy b lent j d (Polls.polled p j box t)
         own before q =
             let s = same p j kj in
             let c = call p j kj s box t in
@@ -347,9 +346,9 @@ module _ (b : Table) (limited : limits b ≡ true) (lent : ℕ → Desk) (keeps 
   took-to : {j i : ℕ} {ρ : List ℕ} {p : Polls} → TookBy b lent j i ρ p → Took BB j (hand i ρ) (runOf p)
   unfolding singly
   took-to TookBy.step = Took.now
-  took-to {j} {i} {ρ} (TookBy.poll {p} {box} {t} m) = took-each (itemsTaken (Polls.held b lent p j) box t) j (runOf p) (record { board = i; bytes = ρ }) m
+  took-to {j} {i} {ρ} (TookBy.poll {p} {box} {t} m) = took-each (itemsTaken (deskAt b lent p j) box t) j (runOf p) (record { board = i; bytes = ρ }) m
   took-to (TookBy.before-take q) = Took.then (took-to q)
-  took-to (TookBy.before-poll {p} {k} {box} {t} q) = took-still (itemsTaken (Polls.held b lent p k) box t) k (took-to q)
+  took-to (TookBy.before-poll {p} {k} {box} {t} q) = took-still (itemsTaken (deskAt b lent p k) box t) k (took-to q)
 
   module _ (Sent : ℕ → ℕ → List ℕ → Type 0) where
     fair-to : {p : Polls} → FairBy b lent keeps Sent p → Fair BB keeps Sent (runOf p)
@@ -358,8 +357,8 @@ module _ (b : Table) (limited : limits b ≡ true) (lent : ℕ → Desk) (keeps 
     fair-to (FairBy.one {p} {j} {x} f g) =
         Fair.went (fair-to f) (λ i ρ e ki kj. elim (g i ρ e ki kj) [ inl q ↦ inl (put-to i ki ρ q j) | inr s ↦ inr s ])
     fair-to (FairBy.all {p} {j} {box} {t} f g) =
-        fair-each Sent (itemsTaken (Polls.held b lent p j) box t) (fair-to f)
-        (λ x m ki kj. elim (g x (taken-in (Polls.held b lent p j) box t x m) ki kj) [ inl q ↦ inl (put-to (x .board) ki (x .bytes) q j) | inr s ↦ inr s ])
+        fair-each Sent (itemsTaken (deskAt b lent p j) box t) (fair-to f)
+        (λ x m ki kj. elim (g x (taken-in (deskAt b lent p j) box t x m) ki kj) [ inl q ↦ inl (put-to (x .board) ki (x .bytes) q j) | inr s ↦ inr s ])
 
     over-to : (p : Polls) → OverBy b lent keeps Sent p → Over BB keeps Sent (runOf p)
     unfolding Over OverBy

@@ -65,29 +65,29 @@ itemsTaken (some d) box t = pick (bytes box && eqb (mailboxIn d box t .answer .n
 
 module _ (b : Table) (lent : ℕ → Desk) where
   -- what board j holds at the end of a history
-  unfoldable pub held : Polls → ℕ → Option Desk
-  held started j = begin b j (lent j)
-  held (took p k x) j = pick (eqb k j) (next (fragmentBoard b) (held p j) x) (held p j)
-  held (polled p k box t) j = pick (eqb k j) (emptiedTo (held p j) box t) (held p j)
+  unfoldable pub deskAt : Polls → ℕ → Option Desk
+  deskAt started j = begin b j (lent j)
+  deskAt (took p k x) j = pick (eqb k j) (next (fragmentBoard b) (deskAt p j) x) (deskAt p j)
+  deskAt (polled p k box t) j = pick (eqb k j) (emptiedTo (deskAt p j) box t) (deskAt p j)
 
   -- board i put the record ρ out, for all boards
   pub data PutBy (i : ℕ) (ρ : List ℕ) : Polls → Type 0 where
-    step : {p : Polls} {x : Input Lend (List ℕ)} (k : ℕ) → puts (fragmentBoard b) (held p i) x k ≡ some ρ → PutBy i ρ (took p i x)
-    poll : {p : Polls} {box : List ℕ} {t : Trays} → List·Memᴰ ρ (pollPuts (held p i) box t) → PutBy i ρ (polled p i box t)
+    step : {p : Polls} {x : Input Lend (List ℕ)} (k : ℕ) → puts (fragmentBoard b) (deskAt p i) x k ≡ some ρ → PutBy i ρ (took p i x)
+    poll : {p : Polls} {box : List ℕ} {t : Trays} → List·Memᴰ ρ (pollPuts (deskAt p i) box t) → PutBy i ρ (polled p i box t)
     before-take : {p : Polls} {k : ℕ} {x : Input Lend (List ℕ)} → PutBy i ρ p → PutBy i ρ (took p k x)
     before-poll : {p : Polls} {k : ℕ} {box : List ℕ} {t : Trays} → PutBy i ρ p → PutBy i ρ (polled p k box t)
 
   -- board j delivered d
   pub data GaveBy (j : ℕ) (d : Option (List ℕ)) : Polls → Type 0 where
-    step : {p : Polls} {x : Input Lend (List ℕ)} → gives (fragmentBoard b) (held p j) x ≡ some d → GaveBy j d (took p j x)
-    poll : {p : Polls} {box : List ℕ} {t : Trays} → pollGives (held p j) box t ≡ some d → GaveBy j d (polled p j box t)
+    step : {p : Polls} {x : Input Lend (List ℕ)} → gives (fragmentBoard b) (deskAt p j) x ≡ some d → GaveBy j d (took p j x)
+    poll : {p : Polls} {box : List ℕ} {t : Trays} → pollGives (deskAt p j) box t ≡ some d → GaveBy j d (polled p j box t)
     before-take : {p : Polls} {k : ℕ} {x : Input Lend (List ℕ)} → GaveBy j d p → GaveBy j d (took p k x)
     before-poll : {p : Polls} {k : ℕ} {box : List ℕ} {t : Trays} → GaveBy j d p → GaveBy j d (polled p k box t)
 
   -- board j took the record ρ from board i, by itself or in a mailbox
   pub data TookBy (j i : ℕ) (ρ : List ℕ) : Polls → Type 0 where
     step : {p : Polls} → TookBy j i ρ (took p j (hand i ρ))
-    poll : {p : Polls} {box : List ℕ} {t : Trays} → List·Memᴰ (record { board = i; bytes = ρ }) (itemsTaken (held p j) box t) → TookBy j i ρ (polled p j box t)
+    poll : {p : Polls} {box : List ℕ} {t : Trays} → List·Memᴰ (record { board = i; bytes = ρ }) (itemsTaken (deskAt p j) box t) → TookBy j i ρ (polled p j box t)
     before-take : {p : Polls} {k : ℕ} {x : Input Lend (List ℕ)} → TookBy j i ρ p → TookBy j i ρ (took p k x)
     before-poll : {p : Polls} {k : ℕ} {box : List ℕ} {t : Trays} → TookBy j i ρ p → TookBy j i ρ (polled p k box t)
 
@@ -100,9 +100,10 @@ module _ (b : Table) (lent : ℕ → Desk) where
   unfoldable pub singly : Polls → Run (boards b lent)
   singly started = fresh
   singly (took p k x) = after (singly p) k x
-  singly (polled p k box t) = handEach (singly p) k (itemsTaken (held p k) box t)
+  singly (polled p k box t) = handEach (singly p) k (itemsTaken (deskAt p k) box t)
 
   module _ (keeps : ℕ → Bool) (Sent : ℕ → ℕ → List ℕ → Type 0) where
+    -- put out by that board, in an earlier call, or by the sender
     abbrev pub GenuineBy : Polls → ℕ → ℕ → List ℕ → Type 0
     GenuineBy p i j ρ = PutBy i ρ p ⊎ Sent i j ρ
 
