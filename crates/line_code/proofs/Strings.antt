@@ -75,11 +75,10 @@ check-bytes n i p f hp hf =
 hashed-bytes : (fs : ℕ → List ℕ) → ((i : ℕ) → All Byte (fs i)) → (t : Tree) → Strings (hashed sha256 fs t)
 unfolding hashed
 hashed-bytes fs h (tip i) = ((omega arith, h i), tt)
-hashed-bytes fs h (fork k l r) =
-    (
-      (omega arith, all-append Byte (root sha256 fs l) (root sha256 fs r) (node-bytes fs l) (node-bytes fs r)),
-      joined (hashed sha256 fs l) (hashed sha256 fs r) (hashed-bytes fs h l) (hashed-bytes fs h r),
-    )
+hashed-bytes fs h (fork k l r) = (
+  (omega arith, all-append Byte (root sha256 fs l) (root sha256 fs r) (node-bytes fs l) (node-bytes fs r)),
+  joined (hashed sha256 fs l) (hashed sha256 fs r) (hashed-bytes fs h l) (hashed-bytes fs h r),
+)
 
 pub encoding-bytes : (b : Table) (m : List ℕ) → All Byte m → Strings (treeStrings (b .n) (fragmentFor b m))
 unfolding treeStrings

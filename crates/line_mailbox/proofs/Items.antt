@@ -154,8 +154,11 @@ module _ (b : Table) (limited : limits b ≡ true) (lent : ℕ → Desk) (keeps 
         | inr (e, q) ↦ inr (e, inr q)
         | inl q ↦ elim (last-put BB q) [
           | inl q ↦ inl q
-          | inr (e, q) ↦ inr (e, inl (sym (puts-is r x l i item (ab .0) j)
-              ∙ subst (λ a. BB .puts (state BB r a) (hand (item .board) (item .bytes)) j ≡ some ρ) (sym e) q))
+          | inr (e, q) ↦ inr (
+            e,
+            inl (sym (puts-is r x l i item (ab .0) j)
+                ∙ subst (λ a. BB .puts (state BB r a) (hand (item .board) (item .bytes)) j ≡ some ρ) (sym e) q),
+          )
         ]
       ]
 
@@ -178,7 +181,10 @@ module _ (b : Table) (limited : limits b ≡ true) (lent : ℕ → Desk) (keeps 
         | inr (q, g) ↦ inr (q, inr g)
         | inl q ↦ elim (last-given b lent q) [
           | inl q ↦ inl q
-          | inr (h, g) ↦ inr (h, inl (sym (gives-is r x l i item (ab .0))
-              ∙ subst (λ a. BB .gives (state BB r a) (hand (item .board) (item .bytes)) ≡ some e) (sym h) g))
+          | inr (h, g) ↦ inr (
+            h,
+            inl (sym (gives-is r x l i item (ab .0))
+                ∙ subst (λ a. BB .gives (state BB r a) (hand (item .board) (item .bytes)) ≡ some e) (sym h) g),
+          )
         ]
       ]
