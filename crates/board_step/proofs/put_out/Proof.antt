@@ -35,7 +35,10 @@ returns c =
 
 write-vote-requires : tie.Need-write-vote-requires
 unfolding putOut pick
-write-vote-requires c κs = let room = rw (c .before .before .if1 .left, c .before .if2 .taken) at (c .before .before .before .before .before .pre .0) in let f = c .before .before .before .before .before .pre .1 in (omega (arith, vote-length (recordRoot (c .before .before .before .before .before .args .r .now)) (root-length (c .before .before .before .before .before .args .r .now) (c .before .before .before .before .before .args .nodes) (c .before .before .before .before .before .args .len) f)), omega (arith, f .ends))
+write-vote-requires c κs =
+    let s = c .before .before .before .before .before in let a = s .args in let f = s .pre .1 in
+    let room = rw (c .before .before .if1 .left, c .before .if2 .taken) at (s .pre .0) in
+    (omega (arith, vote-length (recordRoot (a .r .now)) (root-length (a .r .now) (a .nodes) (a .len) f)), omega (arith, f .ends))
 
 same-length-2 : tie.Need-same-length-2
 same-length-2 c = search needs

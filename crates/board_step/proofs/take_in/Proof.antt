@@ -58,7 +58,11 @@ both-requires-2 : tie.Need-both-requires-2
 both-requires-2 c κs = search needs
 
 put-out-requires : tie.Need-put-out-requires
-put-out-requires c κs = let a = c .before .before .before .before .before .before .before .before .before .before .before .before .before .before .before .before .before .before .before .before .before .before .before .args in let p = c .before .before .before .before .before .before .before .before .before .before .before .before .before .before .before .before .before .before .before .before .before .before .before .pre in let f = formed (a .s .now) (a .from) (a .r .now) (p .0 .0) (p .0 .1 .0) (a .kind) (a .nodes) (a .len) (taken (a .s .now) (a .from) (a .r .now) (p .0 .0) (p .0 .1 .0) (a .kind) (a .nodes) (a .len) (p .0 .1 .1)) in (rw (c .before .before .both .ensures) (omega (arith, said-room (a .r .now) (a .nodes) (a .len) f (a .kind) (a .good) (c .both2 .result), p .1)), f)
+put-out-requires c κs =
+    let s = c .before .before .before .before .before .before .before .before .before .before .before .before .before .before .before .before .before .before .before .before .before .before .before in let a = s .args in let p = s .pre in
+    let t = taken (a .s .now) (a .from) (a .r .now) (p .0 .0) (p .0 .1 .0) (a .kind) (a .nodes) (a .len) (p .0 .1 .1) in
+    let f = formed (a .s .now) (a .from) (a .r .now) (p .0 .0) (p .0 .1 .0) (a .kind) (a .nodes) (a .len) t in
+    (rw (c .before .before .both .ensures) (omega (arith, said-room (a .r .now) (a .nodes) (a .len) f (a .kind) (a .good) (c .both2 .result), p .1)), f)
 
 same-length : tie.Need-same-length
 same-length c = search needs
