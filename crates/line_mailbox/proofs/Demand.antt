@@ -1,11 +1,11 @@
 -- Demand 3 of boards that empty mailboxes: their history is a run of steps, `singly`, with the same records put out, delivered and handed over.
 use Prim.Native.Nat.{ℕ, _≤_}
 use native.Mathlib.Decide.{ℕ-discrete}
-use mathlib.Core.Bool.{Bool, true, false, _&&_}
+use mathlib.Core.Bool.{Bool, true, false}
 use mathlib.Core.Path.{_≡_, refl, subst, sym, _∙_, ap, ap₂}
 use mathlib.Core.Logic.{inl, inr}
 use mathlib.Core.List.{List, [], _∷_, List·Memᴰ, List·Memᴰ·head, List·Memᴰ·tail}
-use mathlib.Core.Option.{Option, some, none}
+use mathlib.Core.Option.{Option, some}
 use borrow.Author.Tests.{leb-true, eq-eqb, ne-eqb}
 use lib.Dec.{T, leb, eqb}
 use lib.ListN.{length}
@@ -16,7 +16,7 @@ use Rattle.table.specs.declared.Table.{Table}
 use Rattle.record.specs.Form.{outBytes}
 use Rattle.board_step.specs.Step.{Outcome, stepOf}
 use Rattle.board_step.proofs.Outcomes.{stays}
-use Rattle.mailbox.specs.Items.{Item, itemsOf}
+use Rattle.mailbox.specs.Items.{Item}
 use Rattle.board_mailbox.specs.Emptied.{handedAll}
 use Rattle.line.specs.Boards.{Board}
 use Rattle.line.specs.Bytes.{bytes, untouched, called, next, puts, gives}
@@ -27,7 +27,7 @@ use Rattle.line_demand.proofs.Carry.{begun-some}
 use Rattle.line_demand.proofs.Reached.{started, held}
 use Rattle.line_demand.specs.Demand.{DemandThree}
 use Rattle.line_demand.proofs.Demand.{demand-three}
-use Rattle.line_mailbox.specs.Polls.{Polls, Trays, mailboxIn, emptiedTo, pollPuts, pollGives, itemsTaken, deskAt, PutBy, GaveBy, TookBy, handEach, singly, FairBy, OverBy}
+use Rattle.line_mailbox.specs.Polls.{Polls, Trays, emptiedTo, pollPuts, pollGives, itemsTaken, deskAt, PutBy, GaveBy, TookBy, handEach, singly, FairBy, OverBy}
 use Rattle.line_mailbox.specs.Demand.{DemandThreePolled}
 use Rattle.line_mailbox.proofs.Alike.{Alike, alike, put-alike}
 use Rattle.line_mailbox.proofs.Items.{kept-each, given-each, last-given, Level, level-all, put-of, put-why, given-of, given-why}
@@ -90,15 +90,6 @@ module _ (b : Table) (limited : limits b ≡ true) (lent : ℕ → Desk) (keeps 
       later : (x : Item) → Genuine BB Sent r (x .board) k (x .bytes) → Genuine BB Sent (after r k (hand (item .board) (item .bytes))) (x .board) k (x .bytes)
       later x (inl p) = inl (Put.then p)
       later x (inr s) = inr s
-
-  taken-in : (o : Option Desk) (box : List ℕ) (t : Trays) (x : Item) → List·Memᴰ x (itemsTaken o box t) → List·Memᴰ x (itemsOf box)
-  unfolding itemsTaken pick
-  taken-in none box t x m = elim m [ ]
-  taken-in (some d) box t x m = go (bytes box && eqb (mailboxIn d box t .answer .number) 0) m
-    where
-      go : (c : Bool) → List·Memᴰ x (pick c (itemsOf box) []) → List·Memᴰ x (itemsOf box)
-      go true m = m
-      go false m = elim m [ ]
 
   -- ---- what a board holds, in the history and in the run
 
@@ -358,7 +349,7 @@ module _ (b : Table) (limited : limits b ≡ true) (lent : ℕ → Desk) (keeps 
         Fair.went (fair-to f) (λ i ρ e ki kj. elim (g i ρ e ki kj) [ inl q ↦ inl (put-to i ki ρ q j) | inr s ↦ inr s ])
     fair-to (FairBy.all {p} {j} {box} {t} f g) =
         fair-each Sent (itemsTaken (deskAt b lent p j) box t) (fair-to f)
-        (λ x m ki kj. elim (g x (taken-in (deskAt b lent p j) box t x m) ki kj) [ inl q ↦ inl (put-to (x .board) ki (x .bytes) q j) | inr s ↦ inr s ])
+        (λ x m ki kj. elim (g x m ki kj) [ inl q ↦ inl (put-to (x .board) ki (x .bytes) q j) | inr s ↦ inr s ])
 
     over-to : (p : Polls) → OverBy b lent keeps Sent p → Over BB keeps Sent (runOf p)
     unfolding Over OverBy

@@ -113,7 +113,7 @@ module _ (b : Table) (lent : ℕ → Desk) where
       one : {p : Polls} {j : ℕ} {x : Input Lend (List ℕ)} → FairBy p
           → ((i : ℕ) (ρ : List ℕ) → x ≡ hand i ρ → T (keeps i) → T (keeps j) → GenuineBy p i j ρ) → FairBy (took p j x)
       all : {p : Polls} {j : ℕ} {box : List ℕ} {t : Trays} → FairBy p
-          → ((x : Item) → List·Memᴰ x (itemsOf box) → T (keeps (x .board)) → T (keeps j) → GenuineBy p (x .board) j (x .bytes)) → FairBy (polled p j box t)
+          → ((x : Item) → List·Memᴰ x (itemsTaken (deskAt p j) box t) → T (keeps (x .board)) → T (keeps j) → GenuineBy p (x .board) j (x .bytes)) → FairBy (polled p j box t)
 
     -- every record between rule-keeping boards has been handed over
     unfoldable pub OverBy : Polls → Type 0
