@@ -9,7 +9,7 @@ use Rattle.octets.specs.Bytes.{pick}
 use Rattle.line.specs.Run.{Machine, In, hand, Run, fresh, after, state, Took, Put, Delivered, Fair, Over}
 use Rattle.line.specs.Promise.{Promise}
 use Rattle.line.specs.Project.{extend, project, TookSeen, OverOf, DeliveredOf, PromiseOf}
-use Rattle.line.proofs.Runs.{last-put, no-put}
+use Rattle.line.proofs.Runs.{last-put, no-put, last-given, no-given}
 use Rattle.line.proofs.Tests.{none-some}
 
 -- what f makes of something, if there is something
@@ -124,17 +124,10 @@ module _ {B M : Machine} {sees : B .State → In B → Option (In M)} {keeps : �
   given-now q j e none g = none-some e g
   given-now q j e (some y) g = Delivered.now g
 
-  last : {j k : ℕ} {e : M .Result} {q : Run M} {y : In M} → Delivered M j e (after q k y) → Delivered M j e q ⊎ ((k ≡ j) × (M .gives (state M q j) y ≡ some e))
-  last (Delivered.now g) = inr (refl, g)
-  last (Delivered.then p) = inl p
-
   given-last : (q : Run M) (j k : ℕ) (e : M .Result) (o : Option (In M)) → Delivered M j e (extend B M sees q k o)
       → Delivered M j e q ⊎ ((k ≡ j) × (givesBy M (state M q j) o ≡ some e))
   given-last q j k e none p = inl p
-  given-last q j k e (some y) p = last p
-
-  nothing : {j : ℕ} {e : M .Result} → Delivered M j e fresh → ⊥
-  nothing p = elim p [ ]
+  given-last q j k e (some y) p = last-given M p
 
   -- what is delivered in the one is delivered in the other
   pub delivered-on : {j : ℕ} {d : B .Result} {e : M .Result} {r : Run B} → T (keeps j) → A .res d ≡ some e → Delivered B j d r → Delivered M j e (project B M sees r)
@@ -145,7 +138,7 @@ module _ {B M : Machine} {sees : B .State → In B → Option (In M)} {keeps : �
 
   pub delivered-back : (r : Run B) (j : ℕ) → T (keeps j) → (e : M .Result) → Delivered M j e (project B M sees r) → (d : B .Result) × (A .res d ≡ some e) × Delivered B j d r
   unfolding project
-  delivered-back fresh j kj e p = absurd (nothing p)
+  delivered-back fresh j kj e p = absurd (no-given M p)
   delivered-back (after r k x) j kj e p = elim (given-last (project B M sees r) j k e (sees (state B r k) x) p) [
     | inl q ↦ (let (d, h, a) = delivered-back r j kj e q in (d, h, Delivered.then a))
     | inr (kj′, g) ↦ (

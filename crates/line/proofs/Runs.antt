@@ -6,7 +6,7 @@ use mathlib.Core.Logic.{_⊎_, inl, inr}
 use mathlib.Core.Option.{some}
 use lib.Dec.{T, eqb, eqb→eq, eqb-refl}
 use Rattle.octets.specs.Bytes.{pick}
-use Rattle.line.specs.Run.{Machine, In, hand, Run, fresh, after, state, Took, Put, Genuine, Fair}
+use Rattle.line.specs.Run.{Machine, In, hand, Run, fresh, after, state, Took, Put, Delivered, Genuine, Fair}
 use Rattle.line.proofs.Tests.{pick-true}
 
 module _ (M : Machine) where
@@ -48,6 +48,14 @@ module _ (M : Machine) where
 
   pub no-put : {i j : ℕ} {ρ : M .Rec} → Put M i j ρ fresh → ⊥
   no-put p = elim p [ ]
+
+  -- what was delivered: in the last step, or before it
+  pub last-given : {j k : ℕ} {d : M .Result} {r : Run M} {x : In M} → Delivered M j d (after r k x) → Delivered M j d r ⊎ ((k ≡ j) × (M .gives (state M r j) x ≡ some d))
+  last-given (Delivered.now g) = inr (refl, g)
+  last-given (Delivered.then p) = inl p
+
+  pub no-given : {j : ℕ} {d : M .Result} → Delivered M j d fresh → ⊥
+  no-given p = elim p [ ]
 
   -- what was handed over: in the last step, or before it
   pub last-took : {j k : ℕ} {x y : In M} {r : Run M} → Took M j x (after r k y) → Took M j x r ⊎ ((k ≡ j) × (y ≡ x))

@@ -2,7 +2,7 @@
 use Prim.Native.Nat.{ℕ, _≤_}
 use native.Mathlib.Decide.{ℕ-discrete}
 use mathlib.Core.Bool.{Bool, true, false}
-use mathlib.Core.Path.{_≡_, refl, subst, sym, _∙_, ap, ap₂}
+use mathlib.Core.Path.{_≡_, refl, subst, sym, _∙_, ap}
 use mathlib.Core.Logic.{inl, inr}
 use mathlib.Core.List.{List, [], _∷_, List·Memᴰ, List·Memᴰ·head, List·Memᴰ·tail}
 use mathlib.Core.Option.{Option, some}
@@ -21,16 +21,16 @@ use Rattle.board_mailbox.specs.Emptied.{handedAll}
 use Rattle.line.specs.Boards.{Board}
 use Rattle.line.specs.Bytes.{bytes, untouched, called, next, puts, gives}
 use Rattle.line.specs.Run.{Machine, Input, In, hand, tell, Run, fresh, after, state, Took, Put, Delivered, Genuine, Fair, Over}
-use Rattle.line.proofs.Runs.{last-put, no-put, step-cases}
-use Rattle.line_demand.specs.Boards.{Desk, Lend, Roomy, Sends, longEnough, lends, putIn, givenIn, fragmentBoard, boards}
+use Rattle.line.proofs.Runs.{last-put, no-put, last-given, no-given, step-cases}
+use Rattle.line_demand.specs.Boards.{Desk, Lend, Roomy, Sends, longEnough, lends, fragmentBoard, boards}
 use Rattle.line_demand.proofs.Carry.{begun-some}
 use Rattle.line_demand.proofs.Reached.{started, held}
 use Rattle.line_demand.specs.Demand.{DemandThree}
 use Rattle.line_demand.proofs.Demand.{demand-three}
 use Rattle.line_mailbox.specs.Polls.{Polls, Trays, emptiedTo, pollPuts, pollGives, itemsTaken, deskAt, PutBy, GaveBy, TookBy, handEach, singly, FairBy, OverBy}
 use Rattle.line_mailbox.specs.Demand.{DemandThreePolled}
-use Rattle.line_mailbox.proofs.Alike.{Alike, alike, put-alike}
-use Rattle.line_mailbox.proofs.Items.{kept-each, given-each, last-given, Level, level-all, put-of, put-why, given-of, given-why}
+use Rattle.line_mailbox.proofs.Alike.{Alike, step-alike, given-alike, put-alike}
+use Rattle.line_mailbox.proofs.Items.{kept-each, given-each, Level, level-all, put-of, put-why, given-of, given-why}
 use Rattle.line_mailbox.proofs.Polling.{Emptying, emptying}
 
 module _ (b : Table) (limited : limits b ≡ true) (lent : ℕ → Desk) (keeps : ℕ → Bool) (known : (j : ℕ) → T (keeps j) → Board (b .n) j)
@@ -55,13 +55,10 @@ module _ (b : Table) (limited : limits b ≡ true) (lent : ℕ → Desk) (keeps 
   other-put [] r k i j ρ n p = p
   other-put (item ∷ rest) r k i j ρ n p = elim (last-put BB (other-put rest (after r k (hand (item .board) (item .bytes))) k i j ρ n p)) [ inl q ↦ q | inr (e, q) ↦ absurd (n e) ]
 
-  none-given : {j : ℕ} {d : Option (List ℕ)} → Delivered BB j d fresh → ⊥
-  none-given p = elim p [ ]
-
   other-given : (items : List Item) (r : Run BB) (k j : ℕ) (d : Option (List ℕ)) → (k ≡ j → ⊥) → Delivered BB j d (handEach b lent r k items) → Delivered BB j d r
   unfolding handEach
   other-given [] r k j d n p = p
-  other-given (item ∷ rest) r k j d n p = elim (last-given b lent (other-given rest (after r k (hand (item .board) (item .bytes))) k j d n p)) [ inl q ↦ q | inr (e, q) ↦ absurd (n e) ]
+  other-given (item ∷ rest) r k j d n p = elim (last-given BB (other-given rest (after r k (hand (item .board) (item .bytes))) k j d n p)) [ inl q ↦ q | inr (e, q) ↦ absurd (n e) ]
 
   took-still : (items : List Item) (k : ℕ) {j : ℕ} {x : In BB} {r : Run BB} → Took BB j x r → Took BB j x (handEach b lent r k items)
   unfolding handEach
@@ -110,14 +107,8 @@ module _ (b : Table) (limited : limits b ≡ true) (lent : ℕ → Desk) (keeps 
     abbrev thereStep : Outcome
     thereStep = stepOf (s .theirs .state) i r (s .theirs .out) (s .theirs .delivery)
 
-    by-mine : stepOf (s .theirs .state) i r (s .mine .out) (s .theirs .delivery) ≡ hereStep
-    by-mine = ap₂ (λ (x y : List ℕ). stepOf x i r (s .mine .out) y) (s .state-same) (s .delivery-same)
-
     same-step : Alike thereStep hereStep
-    same-step = subst (Alike thereStep) by-mine (alike (s .theirs .state) i r (s .theirs .out) (s .mine .out) (s .theirs .delivery) theirs-out (s .out))
-
-    given-same : givenIn thereStep ≡ givenIn hereStep
-    given-same = λ z. givenIn (record { answer = same-step .answer z; state = thereStep .state; out = thereStep .out; delivery = same-step .delivery z })
+    same-step = step-alike (s .theirs .state) (s .mine .state) i r (s .theirs .out) (s .mine .out) (s .theirs .delivery) (s .mine .delivery) (s .state-same) (s .delivery-same) theirs-out (s .out)
 
     module _ (sound-out : length (hereStep .out) ≡ length (s .mine .out)) where
       hand-same : SameAs (next (fragmentBoard b) o (hand i r)) (next (fragmentBoard b) o′ (hand i r))
@@ -180,8 +171,8 @@ module _ (b : Table) (limited : limits b ≡ true) (lent : ℕ → Desk) (keeps 
         go : (c : Bool) → bytes r ≡ c
             → pick c (fragmentBoard b .step (s .mine) i r) (untouched (fragmentBoard b) (s .mine)) .put j ≡ pick c (fragmentBoard b .step (s .theirs) i r) (untouched (fragmentBoard b) (s .theirs)) .put l
         go true e =
-            ap putIn (sym (by-mine (deskAt b lent p k) (state BB (runOf p) k) s theirs-long i r))
-            ∙ sym (put-alike b k (s .theirs) _ (held b limited lent keeps roomy (runOf p) k kk (s .theirs) (s .there)) i r e (s .mine .out) (s .out))
+            sym (put-alike b k (s .theirs) _ (held b limited lent keeps roomy (runOf p) k kk (s .theirs) (s .there)) i r e (s .mine .state) (s .mine .out) (s .mine .delivery)
+            (s .state-same) (s .delivery-same) (s .out))
         go false e = refl
 
     gives-same : (x : Input Lend (List ℕ)) → gives (fragmentBoard b) (deskAt b lent p k) x ≡ gives (fragmentBoard b) (state BB (runOf p) k) x
@@ -193,7 +184,7 @@ module _ (b : Table) (limited : limits b ≡ true) (lent : ℕ → Desk) (keeps 
       where
         go : (c : Bool) → pick c (fragmentBoard b .step (s .mine) i r) (untouched (fragmentBoard b) (s .mine)) .given
             ≡ pick c (fragmentBoard b .step (s .theirs) i r) (untouched (fragmentBoard b) (s .theirs)) .given
-        go true = sym (given-same (deskAt b lent p k) (state BB (runOf p) k) s theirs-long i r)
+        go true = sym (given-alike _ _ (same-step (deskAt b lent p k) (state BB (runOf p) k) s theirs-long i r))
         go false = refl
 
     -- a mailbox
@@ -311,8 +302,8 @@ module _ (b : Table) (limited : limits b ≡ true) (lent : ℕ → Desk) (keeps 
 
     gave-from : (p : Polls) → Delivered BB j d (runOf p) → GaveBy b lent j d p
     unfolding singly
-    gave-from Polls.started q = absurd (none-given q)
-    gave-from (Polls.took p k x) q = elim (last-given b lent q) [
+    gave-from Polls.started q = absurd (no-given BB q)
+    gave-from (Polls.took p k x) q = elim (last-given BB q) [
       | inl q ↦ GaveBy.before-take (gave-from p q)
       | inr (e, q) ↦ subst (λ a. GaveBy b lent j d (Polls.took p a x)) (sym e) (GaveBy.step (gives-same p j kj (same p j kj) x ∙ q))
     ]

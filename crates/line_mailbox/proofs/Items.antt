@@ -2,7 +2,7 @@
 -- item, and so is what each step puts out and delivers.
 use Prim.Native.Nat.{ℕ, _+_, _≤_}
 use mathlib.Core.Bool.{Bool, true, false}
-use mathlib.Core.Path.{_≡_, refl, subst, sym, _∙_, ap, ap₂}
+use mathlib.Core.Path.{_≡_, subst, sym, _∙_, ap}
 use mathlib.Core.Logic.{_⊎_, inl, inr}
 use mathlib.Core.List.{List, [], _∷_}
 use mathlib.Core.Option.{Option, some}
@@ -17,15 +17,15 @@ use Rattle.board_step.specs.Step.{Outcome, stepOf}
 use Rattle.mailbox.specs.Items.{Item}
 use Rattle.board_mailbox.specs.Emptied.{Emptied, isPut, putOutBy, stepFor, filed, handed, handedAll}
 use Rattle.line.specs.Bytes.{bytes, untouched, called, next, puts, gives}
-use Rattle.line.specs.Run.{Machine, In, hand, Run, after, state, Put, Delivered}
+use Rattle.line.specs.Run.{Machine, hand, Run, after, state, Put, Delivered}
 use Rattle.line.specs.Project.{project}
-use Rattle.line.proofs.Runs.{state-own, last-put}
+use Rattle.line.proofs.Runs.{state-own, last-put, last-given}
 use Rattle.line_demand.specs.Boards.{Desk, Roomy, putIn, givenIn, fragmentBoard, boards}
 use Rattle.line_demand.proofs.Started.{broadcast}
 use Rattle.line_demand.proofs.Carry.{sees, Holds}
 use Rattle.line_demand.proofs.Reached.{held}
 use Rattle.line_mailbox.specs.Polls.{handEach}
-use Rattle.line_mailbox.proofs.Alike.{Alike, alike, put-alike}
+use Rattle.line_mailbox.proofs.Alike.{Alike, step-alike, given-alike, put-alike}
 
 -- all of these items are strings of bytes
 abbrev pub AllBytes : List Item → Type 0
@@ -61,11 +61,6 @@ module _ (b : Table) (lent : ℕ → Desk) where
   given-each [] k p = p
   given-each (item ∷ rest) k p = given-each rest k (Delivered.then p)
 
-  pub last-given : {j k : ℕ} {d : Option (List ℕ)} {r : Run (boards b lent)} {x : In (boards b lent)} → Delivered (boards b lent) j d (after r k x)
-      → Delivered (boards b lent) j d r ⊎ ((k ≡ j) × (boards b lent .gives (state (boards b lent) r j) x ≡ some d))
-  last-given (Delivered.now g) = inr (refl, g)
-  last-given (Delivered.then p) = inl p
-
 module _ (b : Table) (limited : limits b ≡ true) (lent : ℕ → Desk) (keeps : ℕ → Bool) (roomy : (j : ℕ) → T (keeps j) → Roomy b (lent j)) (k : ℕ) (kk : T (keeps k)) where
   abbrev BB : Machine
   BB = boards b lent
@@ -89,17 +84,11 @@ module _ (b : Table) (limited : limits b ≡ true) (lent : ℕ → Desk) (keeps 
     holds : Holds b k d (state (broadcast b) (project BB (broadcast b) sees r) k)
     holds = held b limited lent keeps roomy r k kk d (l .here)
 
-    by-definition : stepOf (d .state) (item .board) (item .bytes) (x .echo) (d .delivery) ≡ stepFor item x
-    by-definition = ap₂ (λ (s q : List ℕ). stepOf s (item .board) (item .bytes) (x .echo) q) (l .state-same) (l .delivery-same)
-
     same-step : Alike inRun (stepFor item x)
-    same-step = subst (Alike inRun) by-definition (alike (d .state) (item .board) (item .bytes) (d .out) (x .echo) (d .delivery) (holds .out) (l .echo))
+    same-step = step-alike (d .state) (x .state) (item .board) (item .bytes) (d .out) (x .echo) (d .delivery) (x .delivery) (l .state-same) (l .delivery-same) (holds .out) (l .echo)
 
     put-same : putIn inRun ≡ putIn (stepFor item x)
-    put-same = put-alike b k d _ holds (item .board) (item .bytes) is-bytes (x .echo) (l .echo) ∙ ap putIn by-definition
-
-    given-same : givenIn inRun ≡ givenIn (stepFor item x)
-    given-same = λ z. givenIn (record { answer = same-step .answer z; state = inRun .state; out = inRun .out; delivery = same-step .delivery z })
+    put-same = put-alike b k d _ holds (item .board) (item .bytes) is-bytes (x .state) (x .echo) (x .delivery) (l .state-same) (l .delivery-same) (l .echo)
 
     abbrev r′ : Run BB
     r′ = after r k (hand (item .board) (item .bytes))
@@ -118,7 +107,7 @@ module _ (b : Table) (limited : limits b ≡ true) (lent : ℕ → Desk) (keeps 
     unfolding gives called pick
     gives-is =
         ap (λ (o : Option Desk). gives (fragmentBoard b) o (hand (item .board) (item .bytes))) (l .here)
-        ∙ ap (λ (c : Bool). pick c (fragmentBoard b .step d (item .board) (item .bytes)) (untouched (fragmentBoard b) d) .given) is-bytes ∙ given-same
+        ∙ ap (λ (c : Bool). pick c (fragmentBoard b .step d (item .board) (item .bytes)) (untouched (fragmentBoard b) d) .given) is-bytes ∙ given-alike inRun (stepFor item x) same-step
 
     level-on : Level r′ (handed i item x)
     unfolding handed filed
@@ -179,7 +168,7 @@ module _ (b : Table) (limited : limits b ≡ true) (lent : ℕ → Desk) (keeps 
   given-why i (item ∷ rest) ab r x l j e p =
       elim (given-why (i + 1) rest (ab .1) (after r k (hand (item .board) (item .bytes))) (handed i item x) (level-on r x l i item (ab .0)) j e p) [
         | inr (q, g) ↦ inr (q, inr g)
-        | inl q ↦ elim (last-given b lent q) [
+        | inl q ↦ elim (last-given BB q) [
           | inl q ↦ inl q
           | inr (h, g) ↦ inr (
             h,
