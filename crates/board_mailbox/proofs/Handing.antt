@@ -1,6 +1,6 @@
 -- One item handed over: what the functions do is what its step does, filed.
 use mathlib.Core.Path.{_≡_, refl, sym, ap, _∙_}
-use Prim.Native.Nat.{ℕ, _+_, _-_, _*_, _≤_}
+use Prim.Native.Nat.{ℕ, suc, _+_, _-_, _*_, _≤_}
 use mathlib.Core.List.{List, [], _∷_}
 use mathlib.Core.Bool.{Bool, true, false, not, _&&_}
 use native.Mathlib.Omega.{arith}
@@ -8,6 +8,7 @@ use borrow.Author.Tests.{ne-eqb}
 use lib.Dec.{eqb}
 use lib.ListN.{length, getD}
 use Rattle.octets.specs.Bytes.{pick, part, put, twoAt}
+use Rattle.octets.proofs.Picks.{never}
 use Rattle.table.specs.Table.{sMax}
 use Rattle.record.specs.Form.{outBytes, parse, recordOf}
 use Rattle.record.proofs.Facts.{whole}
@@ -25,8 +26,8 @@ use Rattle.board_step.proofs.Taking.{formed}
 use Rattle.board_step.proofs.Outcomes.{front-of}
 use Rattle.mailbox.specs.Items.{Item}
 use Rattle.board_mailbox.specs.declared.Mailed.{Mailed}
-use Rattle.board_mailbox.specs.Asked.{refusalIn}
-use Rattle.board_mailbox.specs.Emptied.{Emptied, emptied, filedEcho, filedVote, filedDelivery, filed, handed}
+use Rattle.board_mailbox.specs.Asked.{filedEcho, filedVote, filedDelivery, refusalIn}
+use Rattle.board_mailbox.specs.Emptied.{Emptied, emptied, filed, handed}
 
 -- ---- what the refusal's number says of the plan
 
@@ -70,6 +71,55 @@ module _ (s : List ℕ) (from : ℕ) (r o d : List ℕ) where
 
 -- ---- what is filed
 
+-- the code's three changes of an answer, and what the definition says of each field
+by-delivery : (z n : ℕ) (m : Mailed) → filedDelivery z n m ≡ record {
+  number = m .number;
+  «echo_length» = m .«echo_length»;
+  «vote_length» = m .«vote_length»;
+  delivery = pick (not (eqb z 0)) z (m .delivery);
+  «message_length» = pick (not (eqb z 0)) n (m .«message_length»);
+}
+unfolding filedDelivery pick
+by-delivery z n m = go (eqb z 0)
+  where
+    go : (c : Bool) → pick c m (record { number = m .number; «echo_length» = m .«echo_length»; «vote_length» = m .«vote_length»; delivery = z; «message_length» = n })
+        ≡ record {
+          number = m .number;
+          «echo_length» = m .«echo_length»;
+          «vote_length» = m .«vote_length»;
+          delivery = pick (not c) z (m .delivery);
+          «message_length» = pick (not c) n (m .«message_length»);
+        }
+    go true = refl
+    go false = refl
+
+by-vote : (c : Bool) (len : ℕ) (m : Mailed) → (c ≡ true → eqb len 0 ≡ false) → filedVote (pick c len 0) m ≡ record {
+  number = m .number;
+  «echo_length» = m .«echo_length»;
+  «vote_length» = pick c len (m .«vote_length»);
+  delivery = m .delivery;
+  «message_length» = m .«message_length»;
+}
+unfolding filedVote pick
+by-vote true len m h = rw (h refl)
+by-vote false len m h = refl
+
+by-echo : (c : Bool) (len : ℕ) (m : Mailed) → (c ≡ true → eqb len 0 ≡ false) → filedEcho (pick c len 0) m ≡ record {
+  number = m .number;
+  «echo_length» = pick c len (m .«echo_length»);
+  «vote_length» = m .«vote_length»;
+  delivery = m .delivery;
+  «message_length» = m .«message_length»;
+}
+unfolding filedEcho pick
+by-echo true len m h = rw (h refl)
+by-echo false len m h = refl
+
+-- a record of a kind has bytes
+some-bytes : (k : ℕ) → eqb 0 k ≡ false → (w : List ℕ) → eqb (getD w 0 0) k ≡ true → eqb (length w) 0 ≡ false
+some-bytes k e [] h = never (sym e ∙ h)
+some-bytes k e (x ∷ w) h = ne-eqb (suc (length w)) 0 (λ q. omega arith)
+
 module _ (i : ℕ) (m : Mailed) (s a e v d : List ℕ) where
   abbrev before : Emptied
   before = emptied m s a e v d
@@ -80,7 +130,12 @@ module _ (i : ℕ) (m : Mailed) (s a e v d : List ℕ) where
       ≡ emptied (filedDelivery z n (filedVote (pick (eqb (getD w 0 0) 3) (length w) 0) (filedEcho (pick (eqb (getD w 0 0) 2) (length w) 0) m))) s2
       (put i (0 ∷ []) a) (pick (eqb (getD w 0 0) 2) (put 0 w e) e) (pick (eqb (getD w 0 0) 3) (put 0 w v) v) d2
   unfolding filed
-  filed-by w s2 d2 z n h = rw (front-of w e h)
+  filed-by w s2 d2 z n h = rw (
+    front-of w e h,
+    by-echo (eqb (getD w 0 0) 2) (length w) m (some-bytes 2 refl w),
+    by-vote (eqb (getD w 0 0) 3) (length w) _ (some-bytes 3 refl w),
+    by-delivery z n _,
+  )
 
   -- after a send it is an echo
   filed-send : (g : Bool) (p f : ℕ) (r s2 d2 : List ℕ) (z n : ℕ) → length (putOut g false p f r) ≤ length e

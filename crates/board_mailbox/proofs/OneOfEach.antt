@@ -24,8 +24,8 @@ use Rattle.board_step.specs.Step.{Outcome, good, putOut, resultIn, delivered, s
 use Rattle.board_step.proofs.Taking.{marks-left}
 use Rattle.board_step.proofs.Outcomes.{front-of}
 use Rattle.mailbox.specs.Items.{Item}
-use Rattle.board_mailbox.specs.Emptied.{Emptied, putOutBy, isPut, stepFor, filed, handed}
-use Rattle.board_mailbox.specs.Once.{delivers, howOften, OneOfEach}
+use Rattle.board_mailbox.specs.Emptied.{Emptied, putOutBy, isPut, delivers, stepFor, filed, handed}
+use Rattle.board_mailbox.specs.Once.{howOften, OneOfEach}
 use Rattle.board_mailbox.proofs.Handing.{voting, said-short}
 
 -- a step that leaves y from s does something only with the flag down, and then it is up; it never goes down

@@ -38,43 +38,21 @@ putOutBy y = part 0 (y .answer .«record_length») (y .out)
 abbrev pub isPut : ℕ → Outcome → Bool
 isPut k y = eqb (getD (putOutBy y) 0 0) k
 
--- an answer with the length of an echo put out; 0 is none
-unfoldable pub filedEcho : ℕ → Mailed → Mailed
-filedEcho len m = pick (eqb len 0) m (record {
-  number = m .number;
-  «echo_length» = len;
-  «vote_length» = m .«vote_length»;
-  delivery = m .delivery;
-  «message_length» = m .«message_length»;
-})
-
--- with the length of a vote
-unfoldable pub filedVote : ℕ → Mailed → Mailed
-filedVote len m = pick (eqb len 0) m (record {
-  number = m .number;
-  «echo_length» = m .«echo_length»;
-  «vote_length» = len;
-  delivery = m .delivery;
-  «message_length» = m .«message_length»;
-})
-
--- with a delivery and its length
-unfoldable pub filedDelivery : ℕ → ℕ → Mailed → Mailed
-filedDelivery kind len m = pick (eqb kind 0) m (record {
-  number = m .number;
-  «echo_length» = m .«echo_length»;
-  «vote_length» = m .«vote_length»;
-  delivery = kind;
-  «message_length» = len;
-})
+-- whether a step delivers: a message, or void
+abbrev pub delivers : Outcome → Bool
+delivers y = not (eqb (y .answer .delivery) 0)
 
 -- what is left once the step of item i has left y: "answers item by item", a byte each; an echo at the front of its buffer, a vote at the
 -- front of its own; "final state .. and delivery"
 unfoldable pub filed : ℕ → Outcome → Emptied → Emptied
 filed i y x = record {
-  answer =
-      filedDelivery (y .answer .delivery) (y .answer .«message_length»)
-      (filedVote (pick (isPut 3 y) (y .answer .«record_length») 0) (filedEcho (pick (isPut 2 y) (y .answer .«record_length») 0) (x .answer)));
+  answer = record {
+    number = x .answer .number;
+    «echo_length» = pick (isPut 2 y) (y .answer .«record_length») (x .answer .«echo_length»);
+    «vote_length» = pick (isPut 3 y) (y .answer .«record_length») (x .answer .«vote_length»);
+    delivery = pick (delivers y) (y .answer .delivery) (x .answer .delivery);
+    «message_length» = pick (delivers y) (y .answer .«message_length») (x .answer .«message_length»);
+  };
   state = y .state;
   answers = put i (y .answer .number ∷ []) (x .answers);
   echo = pick (isPut 2 y) (put 0 (putOutBy y) (x .echo)) (x .echo);

@@ -1,16 +1,11 @@
 -- "Records put out (in total at most one echo and one vote) and delivery": how many of the items put something out, or deliver.
 use Prim.Native.Nat.{ℕ, _+_, _≤_}
 use mathlib.Core.List.{List, [], _∷_}
-use mathlib.Core.Bool.{Bool, not}
-use lib.Dec.{eqb}
+use mathlib.Core.Bool.{Bool}
 use Rattle.octets.specs.Sets.{bit}
 use Rattle.mailbox.specs.Items.{Item}
 use Rattle.board_step.specs.Step.{Outcome}
-use Rattle.board_mailbox.specs.Emptied.{Emptied, isPut, stepFor, handed}
-
--- whether a step delivers: a message, or void
-abbrev pub delivers : Outcome → Bool
-delivers y = not (eqb (y .answer .delivery) 0)
+use Rattle.board_mailbox.specs.Emptied.{Emptied, isPut, delivers, stepFor, handed}
 
 -- how many of the items, handed over singly from item i on, have a step of which this is so
 unfoldable pub howOften : (Outcome → Bool) → ℕ → List Item → Emptied → ℕ

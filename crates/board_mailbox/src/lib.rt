@@ -30,8 +30,8 @@ ghost use Rattle.deliver.specs.Delivered.{left};
 ghost use Rattle.board_step.specs.Asked.{outRoom, Deliverable};
 ghost use Rattle.board_step.specs.Step.{stepped, outcome, resultIn, delivered, takenOf};
 ghost use Rattle.mailbox.specs.Items.{countOf, framed, itemsOf};
-ghost use Rattle.board_mailbox.specs.Emptied.{onlyNumber, emptied, filedEcho, filedVote, filedDelivery, handed, handedAll, mailboxRefusal, mailboxOf};
-ghost use Rattle.board_mailbox.specs.Asked.{refusalIn, Open};
+ghost use Rattle.board_mailbox.specs.Emptied.{onlyNumber, emptied, handed, handedAll, mailboxRefusal, mailboxOf};
+ghost use Rattle.board_mailbox.specs.Asked.{filedEcho, filedVote, filedDelivery, refusalIn, Open};
 
 // What a mailbox answers: 0 or a refusal's number, the lengths of the echo and of the vote put out, the delivery (0 none, 1 a message, 2 void)
 // and its length.

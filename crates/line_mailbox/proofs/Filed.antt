@@ -2,7 +2,7 @@
 use Prim.Native.Nat.{ℕ, zero, suc, _+_, _-_, _≤_}
 use native.Mathlib.Omega.{arith}
 use mathlib.Core.Bool.{Bool, true, false, not, _&&_}
-use mathlib.Core.Path.{_≡_, refl, sym, _∙_, ap, ap₂, subst}
+use mathlib.Core.Path.{_≡_, refl, sym, _∙_, ap, subst}
 use mathlib.Core.Logic.{_⊎_, inl, inr}
 use mathlib.Core.List.{List, [], _∷_}
 use mathlib.Core.Option.{Option, some, none}
@@ -25,9 +25,7 @@ use Rattle.board_step.proofs.Records.{said-room}
 use Rattle.board_step.proofs.Taking.{formed}
 use Rattle.board_step.proofs.Outcomes.{stays, front-of}
 use Rattle.mailbox.specs.Items.{Item}
-use Rattle.board_mailbox.specs.declared.Mailed.{Mailed}
-use Rattle.board_mailbox.specs.Emptied.{Emptied, filedEcho, filedVote, filedDelivery, putOutBy, isPut, stepFor, filed, handed}
-use Rattle.board_mailbox.specs.Once.{delivers}
+use Rattle.board_mailbox.specs.Emptied.{Emptied, putOutBy, isPut, delivers, stepFor, filed, handed}
 use Rattle.board_mailbox.proofs.Handing.{voting, said-short}
 use Rattle.board_mailbox.proofs.OneOfEach.{is-echo, is-vote, put-is, echo-steps, vote-steps, delivery-steps}
 use Rattle.board_mailbox.proofs.Walk.{OpenFor}
@@ -35,55 +33,6 @@ use Rattle.line.proofs.Tests.{none-some}
 use Rattle.line_demand.specs.Boards.{recordIn, deliveredIn, putIn, givenIn}
 use Rattle.line_mailbox.proofs.Items.{PutIn, GaveIn}
 use Rattle.line_mailbox.proofs.Slots.{Slot, DoesIn}
-
--- ---- the answer's fields
-
-field : (f : Mailed → ℕ) (c : Bool) (m n : Mailed) → f (pick c m n) ≡ pick c (f m) (f n)
-unfolding pick
-field f true m n = refl
-field f false m n = refl
-
-as-was : (c : Bool) (a : ℕ) → pick c a a ≡ a
-unfolding pick
-as-was true a = refl
-as-was false a = refl
-
-module _ (z n v e : ℕ) (m : Mailed) where
-  abbrev pub all : Mailed
-  all = filedDelivery z n (filedVote v (filedEcho e m))
-
-  echo-field : all .«echo_length» ≡ pick (eqb e 0) (m .«echo_length») e
-  unfolding filedDelivery filedVote filedEcho
-  echo-field =
-      field (λ k. k .«echo_length») (eqb z 0) (filedVote v (filedEcho e m)) _ ∙ as-was (eqb z 0) _
-      ∙ field (λ k. k .«echo_length») (eqb v 0) (filedEcho e m) _ ∙ as-was (eqb v 0) _ ∙ field (λ k. k .«echo_length») (eqb e 0) m _
-
-  vote-field : all .«vote_length» ≡ pick (eqb v 0) (m .«vote_length») v
-  unfolding filedDelivery filedVote filedEcho
-  vote-field =
-      field (λ k. k .«vote_length») (eqb z 0) (filedVote v (filedEcho e m)) _ ∙ as-was (eqb z 0) _
-      ∙ field (λ k. k .«vote_length») (eqb v 0) (filedEcho e m) _
-      ∙ ap (λ (a : ℕ). pick (eqb v 0) a v) (field (λ k. k .«vote_length») (eqb e 0) m _ ∙ as-was (eqb e 0) _)
-
-  pub number-field : all .number ≡ m .number
-  unfolding filedDelivery filedVote filedEcho
-  number-field =
-      field (λ k. k .number) (eqb z 0) (filedVote v (filedEcho e m)) _ ∙ as-was (eqb z 0) _
-      ∙ field (λ k. k .number) (eqb v 0) (filedEcho e m) _ ∙ as-was (eqb v 0) _ ∙ field (λ k. k .number) (eqb e 0) m _ ∙ as-was (eqb e 0) _
-
-  kind-field : all .delivery ≡ pick (eqb z 0) (m .delivery) z
-  unfolding filedDelivery filedVote filedEcho
-  kind-field =
-      field (λ k. k .delivery) (eqb z 0) (filedVote v (filedEcho e m)) _
-      ∙ ap (λ (a : ℕ). pick (eqb z 0) a z)
-      (field (λ k. k .delivery) (eqb v 0) (filedEcho e m) _ ∙ as-was (eqb v 0) _ ∙ field (λ k. k .delivery) (eqb e 0) m _ ∙ as-was (eqb e 0) _)
-
-  size-field : all .«message_length» ≡ pick (eqb z 0) (m .«message_length») n
-  unfolding filedDelivery filedVote filedEcho
-  size-field =
-      field (λ k. k .«message_length») (eqb z 0) (filedVote v (filedEcho e m)) _
-      ∙ ap (λ (a : ℕ). pick (eqb z 0) a n)
-      (field (λ k. k .«message_length») (eqb v 0) (filedEcho e m) _ ∙ as-was (eqb v 0) _ ∙ field (λ k. k .«message_length») (eqb e 0) m _ ∙ as-was (eqb e 0) _)
 
 -- ---- a step
 
@@ -94,10 +43,6 @@ placed (suc n) out e h g =
     let w = part 0 (suc n) out in
     let l : length w ≡ suc n = length-part 0 (suc n) out (omega arith) in
     ap some (ap (λ (a : ℕ). part 0 a (put 0 w e)) (sym l) ∙ front-of w e (omega arith))
-
-nothing-put : (k : ℕ) (y : Outcome) → eqb 0 k ≡ false → y .answer .«record_length» ≡ 0 → isPut k y ≡ false
-unfolding part
-nothing-put k y e h = ap (λ (l : ℕ). eqb (getD (part 0 l (y .out)) 0 0) k) h ∙ e
 
 module _ (s : List ℕ) (from : ℕ) (r o d : List ℕ) where
   -- what is known of every step
@@ -177,27 +122,11 @@ voteHeld x = recordIn (x .answer .«vote_length») (x .vote)
 abbrev pub deliveryHeld : Emptied → Option (Option (List ℕ))
 deliveryHeld x = deliveredIn (x .answer .delivery) (x .answer .«message_length») (x .delivery)
 
--- a length that is not 0, where something of kind k was put out
-not-none : (k : ℕ) (y : Outcome) → eqb 0 k ≡ false → isPut k y ≡ true → eqb (y .answer .«record_length») 0 ≡ false
-not-none k y e h = go (eqb (y .answer .«record_length») 0) refl
-  where
-    go : (c : Bool) → eqb (y .answer .«record_length») 0 ≡ c → c ≡ false
-    go true q = never (sym (nothing-put k y e (eqb-true _ 0 q)) ∙ h)
-    go false q = refl
-
 -- what a buffer e holds with len bytes before, once w of l bytes is filed there, or is not
-filed-in : (c : Bool) (l len : ℕ) (w e : List ℕ) → (c ≡ true → eqb l 0 ≡ false)
-    → recordIn (pick (eqb (pick c l 0) 0) len (pick c l 0)) (pick c (put 0 w e) e) ≡ pick c (recordIn l (put 0 w e)) (recordIn len e)
+filed-in : (c : Bool) (l len : ℕ) (w e : List ℕ) → recordIn (pick c l len) (pick c (put 0 w e) e) ≡ pick c (recordIn l (put 0 w e)) (recordIn len e)
 unfolding pick
-filed-in true l len w e h = ap (λ (b : Bool). recordIn (pick b len l) (put 0 w e)) (h refl)
-filed-in false l len w e h = refl
-
--- the lengths that are filed as an echo's and as a vote's
-abbrev pub echoPart : Outcome → ℕ
-echoPart z = pick (isPut 2 z) (z .answer .«record_length») 0
-
-abbrev pub votePart : Outcome → ℕ
-votePart z = pick (isPut 3 z) (z .answer .«record_length») 0
+filed-in true l len w e = refl
+filed-in false l len w e = refl
 
 module _ (i : ℕ) (item : Item) (x : Emptied) (h : OpenFor x) where
   abbrev z : Outcome
@@ -206,17 +135,14 @@ module _ (i : ℕ) (item : Item) (x : Emptied) (h : OpenFor x) where
   echo-is : echoHeld (handed i item x) ≡ pick (isPut 2 z) (putIn z) (echoHeld x)
   unfolding handed filed
   echo-is =
-      ap (λ (l : ℕ). recordIn l (pick (isPut 2 z) (put 0 (putOutBy z) (x .echo)) (x .echo))) (echo-field _ _ _ (echoPart z) (x .answer))
-      ∙ filed-in (isPut 2 z) (z .answer .«record_length») (x .answer .«echo_length») (putOutBy z) (x .echo) (not-none 2 z refl)
+      filed-in (isPut 2 z) (z .answer .«record_length») (x .answer .«echo_length») (putOutBy z) (x .echo)
       ∙ ap (λ (o : Option (List ℕ)). pick (isPut 2 z) o (echoHeld x))
       (placed (z .answer .«record_length») (z .out) (x .echo) (omega (arith, step-facts item x .short, out-long item x h, h .ready .out))
       (omega (arith, step-facts item x .short, h .ready .out)))
 
   vote-is : voteHeld (handed i item x) ≡ pick (isPut 3 z) (putIn z) (voteHeld x)
   unfolding handed filed pick
-  vote-is =
-      ap (λ (l : ℕ). recordIn l (pick (isPut 3 z) (put 0 (putOutBy z) (x .vote)) (x .vote))) (vote-field _ _ (votePart z) _ (x .answer))
-      ∙ filed-in (isPut 3 z) (z .answer .«record_length») (x .answer .«vote_length») (putOutBy z) (x .vote) (not-none 3 z refl) ∙ go (isPut 3 z) refl
+  vote-is = filed-in (isPut 3 z) (z .answer .«record_length») (x .answer .«vote_length») (putOutBy z) (x .vote) ∙ go (isPut 3 z) refl
     where
       go : (c : Bool) → isPut 3 z ≡ c → pick c (recordIn (z .answer .«record_length») (put 0 (putOutBy z) (x .vote))) (voteHeld x) ≡ pick c (putIn z) (voteHeld x)
       go true e = ap (λ (o : Option (List ℕ)). pick true o (voteHeld x))
@@ -226,17 +152,13 @@ module _ (i : ℕ) (item : Item) (x : Emptied) (h : OpenFor x) where
 
   delivery-is : deliveryHeld (handed i item x) ≡ pick (delivers z) (givenIn z) (deliveryHeld x)
   unfolding handed filed pick
-  delivery-is =
-      ap₂ (λ (k n : ℕ). deliveredIn k n (z .delivery))
-      (kind-field (z .answer .delivery) (z .answer .«message_length») (votePart z) (echoPart z) (x .answer))
-      (size-field (z .answer .delivery) (z .answer .«message_length») (votePart z) (echoPart z) (x .answer))
-      ∙ go (eqb (z .answer .delivery) 0) refl
+  delivery-is = go (delivers z) refl
     where
-      go : (c : Bool) → eqb (z .answer .delivery) 0 ≡ c
-          → deliveredIn (pick c (x .answer .delivery) (z .answer .delivery)) (pick c (x .answer .«message_length») (z .answer .«message_length»)) (z .delivery)
-          ≡ pick (not c) (givenIn z) (deliveryHeld x)
-      go true e = ap (deliveredIn (x .answer .delivery) (x .answer .«message_length»)) (step-facts item x .kept (ap not e))
-      go false e = refl
+      go : (c : Bool) → delivers z ≡ c
+          → deliveredIn (pick c (z .answer .delivery) (x .answer .delivery)) (pick c (z .answer .«message_length») (x .answer .«message_length»)) (z .delivery)
+          ≡ pick c (givenIn z) (deliveryHeld x)
+      go true e = refl
+      go false e = ap (deliveredIn (x .answer .delivery) (x .answer .«message_length»)) (step-facts item x .kept e)
 
 hits : {R : Type 0} (c : Bool) (a b : R) (o : R) → o ≡ pick c a b → c ≡ true → o ≡ a
 unfolding pick

@@ -13,8 +13,7 @@ use Rattle.record.specs.Form.{outBytes}
 use Rattle.code.specs.Code.{All, Byte}
 use Rattle.code.proofs.Lists.{part-bytes}
 use Rattle.mailbox.specs.Items.{Item, countOf, endOf, itemsFrom, itemsOf}
-use Rattle.board_mailbox.specs.Emptied.{Emptied, onlyNumber, emptied, filed, handed, handedAll, stepFor, isPut, mailboxRefusal, mailboxBy, mailboxOf}
-use Rattle.board_mailbox.specs.Once.{delivers}
+use Rattle.board_mailbox.specs.Emptied.{Emptied, onlyNumber, emptied, filed, handed, handedAll, isPut, delivers, mailboxRefusal, mailboxBy, mailboxOf}
 use Rattle.board_mailbox.proofs.Refusals.{none-refused}
 use Rattle.board_mailbox.proofs.Walk.{OpenFor}
 use Rattle.line.specs.Bytes.{bytes}
@@ -25,7 +24,7 @@ use Rattle.line_demand.specs.Boards.{Desk, putIn, givenIn}
 use Rattle.line_mailbox.specs.Polls.{Trays, emptiedTo, oneOf, recordsIn, pollPuts, pollGives, itemsTaken}
 use Rattle.line_mailbox.proofs.Items.{AllBytes, PutIn, GaveIn}
 use Rattle.line_mailbox.proofs.Slots.{DoesIn, stands, stands-why}
-use Rattle.line_mailbox.proofs.Filed.{number-field, echoPart, votePart, echoHeld, voteHeld, deliveryHeld, echo-slot, vote-slot, delivery-slot, filed-as, put-by, delivered-as, gave-by}
+use Rattle.line_mailbox.proofs.Filed.{echoHeld, voteHeld, deliveryHeld, echo-slot, vote-slot, delivery-slot, filed-as, put-by, delivered-as, gave-by}
 
 -- ---- the items of a string of bytes
 
@@ -42,9 +41,7 @@ all-items box e = items-bytes (countOf box) 2 box (bytes-all box e)
 
 number-on : (i : ℕ) (item : Item) (x : Emptied) → handed i item x .answer .number ≡ x .answer .number
 unfolding handed filed
-number-on i item x =
-    let z = stepFor item x in
-    number-field (z .answer .delivery) (z .answer .«message_length») (votePart z) (echoPart z) (x .answer)
+number-on i item x = refl
 
 number-kept : (i : ℕ) (items : List Item) (x : Emptied) → handedAll i items x .answer .number ≡ x .answer .number
 unfolding handedAll

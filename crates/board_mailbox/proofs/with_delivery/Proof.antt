@@ -1,6 +1,6 @@
 use borrow.Author.Tests.{eq-eqb, ne-eqb}
 use Rattle.octets.specs.Bytes.{pick}
-use Rattle.board_mailbox.specs.Emptied.{filedDelivery}
+use Rattle.board_mailbox.specs.Asked.{filedDelivery}
 use Rattle.board_mailbox.proofs.with_delivery.Statement.{statement}
 use Rattle.board_mailbox.proofs.with_delivery.Tie as tie
 

@@ -1,6 +1,6 @@
 use borrow.Author.Tests.{eq-eqb, ne-eqb}
 use Rattle.octets.specs.Bytes.{pick}
-use Rattle.board_mailbox.specs.Emptied.{filedEcho}
+use Rattle.board_mailbox.specs.Asked.{filedEcho}
 use Rattle.board_mailbox.proofs.with_echo.Statement.{statement}
 use Rattle.board_mailbox.proofs.with_echo.Tie as tie
 

@@ -1,6 +1,6 @@
 use borrow.Author.Tests.{eq-eqb, ne-eqb}
 use Rattle.octets.specs.Bytes.{pick}
-use Rattle.board_mailbox.specs.Emptied.{filedVote}
+use Rattle.board_mailbox.specs.Asked.{filedVote}
 use Rattle.board_mailbox.proofs.with_vote.Statement.{statement}
 use Rattle.board_mailbox.proofs.with_vote.Tie as tie
 
