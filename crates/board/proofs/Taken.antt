@@ -3,6 +3,7 @@ use mathlib.Core.Path.{_≡_, refl, subst, ap, _∙_}
 use Prim.Native.Nat.{ℕ, suc, _+_, _-_, _*_, _≤_}
 use mathlib.Core.List.{List}
 use mathlib.Core.Bool.{Bool, true, false, not}
+use mathlib.Core.Logic.{_⊎_, inl, inr}
 use native.Mathlib.Omega.{arith}
 use native.Mathlib.Nat.{mul-le-mul-right, suc-mul}
 use borrow.Author.Tests.{ltb-false, not-false}
@@ -14,6 +15,7 @@ use Rattle.table.specs.declared.Table.{Table}
 use Rattle.record.specs.Form.{outBytes, parse}
 use Rattle.record.specs.declared.Read.{Read}
 use Rattle.record.specs.declared.Read.the-variants.{Form, Fault}
+use Rattle.record.proofs.Cuts.{fault-placed}
 use Rattle.state.specs.State.{fixedBytes, view, stateSize, tableOf, marksOf, fragmentAt}
 use Rattle.state.specs.Sound.{sound}
 use Rattle.state.specs.declared.Marks.{Marks}
@@ -25,10 +27,10 @@ use Rattle.octets.proofs.Picks.{or-none-l}
 use Rattle.board.proofs.Buffers.{not-short}
 
 -- a test on the way to taking a record was not met
-unmet : (b : Bool) (q : ℕ) (y : Plan) (k p f : ℕ) → pick b (Refuse q) y ≡ Take k p f → (b ≡ false) × (y ≡ Take k p f)
+unmet : (b : Bool) (q a : ℕ) (y : Plan) (k p f : ℕ) → pick b (Refuse q a) y ≡ Take k p f → (b ≡ false) × (y ≡ Take k p f)
 unfolding pick
-unmet true q y k p f e = absurd (let z : _≡_ {A = ℕ} 0 1 = cc in omega arith)
-unmet false q y k p f e = (refl, e)
+unmet true q a y k p f e = absurd (let z : _≡_ {A = ℕ} 0 1 = cc in omega arith)
+unmet false q a y k p f e = (refl, e)
 
 -- the marks allow it
 pub record Allowed (b : Table) (m : Marks) (from k f : ℕ) : Type 0 where
@@ -51,10 +53,10 @@ pub record Taken (s : List ℕ) (from : ℕ) (r o d : List ℕ) (k p f : ℕ) : 
 allow : (b : Table) (m : Marks) (from k p f k′ p′ f′ : ℕ) → byMarks b m from k p f ≡ Take k′ p′ f′ → (Form k p f ≡ Form k′ p′ f′) × Allowed b m from k f
 unfolding byMarks
 allow b m from k p f k′ p′ f′ e =
-    let h1 = unmet (isStray b from k) _ _ _ _ _ e in
-    let h2 = unmet (ltb (sMax b) f) _ _ _ _ _ (h1 .1) in
-    let h3 = unmet (isLate m k) _ _ _ _ _ (h2 .1) in
-    let h4 = unmet (isAgain m (from - 1) k) _ _ _ _ _ (h3 .1) in
+    let h1 = unmet (isStray b from k) _ _ _ _ _ _ e in
+    let h2 = unmet (ltb (sMax b) f) _ _ _ _ _ _ (h1 .1) in
+    let h3 = unmet (isLate m k) _ _ _ _ _ _ (h2 .1) in
+    let h4 = unmet (isAgain m (from - 1) k) _ _ _ _ _ _ (h3 .1) in
     let z = h4 .1 in
     (cc, record { stray = h1 .0; short = ltb-false (sMax b) f (h2 .0); late = h3 .0; again = h4 .0 })
 
@@ -71,11 +73,11 @@ pub taken : (s : List ℕ) (from : ℕ) (r o d : List ℕ) (k p f : ℕ) → pla
 unfolding planOf planBy
 taken s from r o d k p f e =
     let b = tableOf s in
-    let h1 = unmet (ltb (length s) fixedBytes) _ _ _ _ _ e in
-    let h2 = unmet (not (sound (view s))) _ _ _ _ _ (h1 .1) in
-    let h3 = unmet (isShort b (length s) (length o) (length d)) _ _ _ _ _ (h2 .1) in
+    let h1 = unmet (ltb (length s) fixedBytes) _ _ _ _ _ _ e in
+    let h2 = unmet (not (sound (view s))) _ _ _ _ _ _ (h1 .1) in
+    let h3 = unmet (isShort b (length s) (length o) (length d)) _ _ _ _ _ _ (h2 .1) in
     let fit = not-short b (length s) (length o) (length d) (h3 .0) in
-    let h4 = unmet (not (isBoard b from)) _ _ _ _ _ (h3 .1) in
+    let h4 = unmet (not (isBoard b from)) _ _ _ _ _ _ (h3 .1) in
     let h5 = read b (marksOf s) from (parse r) k p f (h4 .1) in
     record {
       long = ltb-false (length s) fixedBytes (h1 .0);
@@ -103,29 +105,38 @@ fragment-room b from f len h l m =
     let q : from * sMax b ≡ (from - 1) * sMax b + sMax b = ap (λ (x : ℕ). x * sMax b) e ∙ suc-mul (from - 1) (sMax b) in
     omega arith
 
--- a refusal's number is from 2 to 9
-abbrev Listed : Plan → Type 0
-Listed (Refuse q) = (2 ≤ q) × (q ≤ 9)
-Listed (Take k p f) = Unit
+-- a refusal's number is from 2 to 9, and 0 stands beside it; or it is one of 20 to 25, with a place in the record of n bytes or at its end
+abbrev pub Listed : ℕ → ℕ → ℕ → Type 0
+Listed n q a = ((2 ≤ q) × (q ≤ 9) × (a ≡ 0)) ⊎ ((20 ≤ q) × (q ≤ 25) × (a ≤ n))
 
-listed-pick : (b : Bool) (q : ℕ) (y : Plan) → 2 ≤ q → q ≤ 9 → Listed y → Listed (pick b (Refuse q) y)
-unfolding pick
-listed-pick true q y h k l = (h, k)
-listed-pick false q y h k l = l
+ListedBy : ℕ → Plan → Type 0
+ListedBy n (Refuse q a) = Listed n q a
+ListedBy n (Take k p f) = Unit
 
-listed-form : (b : Table) (m : Marks) (from : ℕ) (x : Read) → Listed (byForm b m from x)
-unfolding byForm byMarks
-listed-form b m from (Fault w a) = (omega arith, omega arith)
-listed-form b m from (Form k p f) =
-    listed-pick (isStray b from k) 6 _ (omega arith) (omega arith)
-    (listed-pick (ltb (sMax b) f) 7 _ (omega arith) (omega arith)
-    (listed-pick (isLate m k) 8 _ (omega arith) (omega arith)
-    (listed-pick (isAgain m (from - 1) k) 9 (Take k p f) (omega arith) (omega arith) tt)))
+listed-pick : (n : ℕ) (b : Bool) (q : ℕ) (y : Plan) → 2 ≤ q → q ≤ 9 → ListedBy n y → ListedBy n (pick b (Refuse q 0) y)
+unfolding ListedBy pick
+listed-pick n true q y h k l = inl (h, k, refl)
+listed-pick n false q y h k l = l
 
-pub listed : (s : List ℕ) (from : ℕ) (r o d : List ℕ) (q : ℕ) → planOf s from r o d ≡ Refuse q → (2 ≤ q) × (q ≤ 9)
-unfolding planOf planBy
-listed s from r o d q e = subst Listed e
-    (listed-pick (ltb (length s) fixedBytes) 2 _ (omega arith) (omega arith)
-    (listed-pick (not (sound (view s))) 3 _ (omega arith) (omega arith)
-    (listed-pick (isShort (tableOf s) (length s) (length o) (length d)) 2 _ (omega arith) (omega arith)
-    (listed-pick (not (isBoard (tableOf s) from)) 4 _ (omega arith) (omega arith) (listed-form (tableOf s) (marksOf s) from (parse r))))))
+listed-form : (b : Table) (m : Marks) (from : ℕ) (r : List ℕ) (x : Read) → parse r ≡ x → ListedBy (length r) (byForm b m from x)
+unfolding ListedBy byForm byMarks
+listed-form b m from r (Fault w a) e = inr (fault-placed r w a e)
+listed-form b m from r (Form k p f) e =
+    listed-pick (length r) (isStray b from k) 6 _ (omega arith) (omega arith)
+    (listed-pick (length r) (ltb (sMax b) f) 7 _ (omega arith) (omega arith)
+    (listed-pick (length r) (isLate m k) 8 _ (omega arith) (omega arith)
+    (listed-pick (length r) (isAgain m (from - 1) k) 9 (Take k p f) (omega arith) (omega arith) tt)))
+
+pub listed : (s : List ℕ) (from : ℕ) (r o d : List ℕ) (q a : ℕ) → planOf s from r o d ≡ Refuse q a → Listed (length r) q a
+unfolding ListedBy planOf planBy
+listed s from r o d q a e = subst (ListedBy (length r)) e
+    (listed-pick (length r) (ltb (length s) fixedBytes) 2 _ (omega arith) (omega arith)
+    (listed-pick (length r) (not (sound (view s))) 3 _ (omega arith) (omega arith)
+    (listed-pick (length r) (isShort (tableOf s) (length s) (length o) (length d)) 2 _ (omega arith) (omega arith)
+    (listed-pick (length r) (not (isBoard (tableOf s) from)) 4 _ (omega arith) (omega arith)
+    (listed-form (tableOf s) (marksOf s) from r (parse r) refl)))))
+
+-- so it is from 2 to 25
+pub listed-between : {n q a : ℕ} → Listed n q a → (2 ≤ q) × (q ≤ 25)
+listed-between (inl (low, high, none)) = (low, omega arith)
+listed-between (inr (low, high, place)) = (omega arith, high)

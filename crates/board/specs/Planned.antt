@@ -37,20 +37,20 @@ isAgain m i k = pick (eqb k 1) (m .acquired) (pick (eqb k 2) (has (m .echoes) i)
 -- a record of kind k, with p path nodes and f fragment bytes, from a board; 7 is "fragment longer than s_max"
 unfoldable pub byMarks : Table → Marks → ℕ → ℕ → ℕ → ℕ → Plan
 byMarks b m from k p f =
-    pick (isStray b from k) (Refuse 6)
-    (pick (ltb (sMax b) f) (Refuse 7)
-    (pick (isLate m k) (Refuse 8)
-    (pick (isAgain m (from - 1) k) (Refuse 9)
+    pick (isStray b from k) (Refuse 6 0)
+    (pick (ltb (sMax b) f) (Refuse 7 0)
+    (pick (isLate m k) (Refuse 8 0)
+    (pick (isAgain m (from - 1) k) (Refuse 9 0)
     (Take k p f))))
 
--- 5, "record not of the form above"
+-- 20 to 25, "with the byte offset of the field at fault": the record is not of the form
 unfoldable pub byForm : Table → Marks → ℕ → Read → Plan
-byForm b m from (Fault why at) = Refuse 5
+byForm b m from (Fault why at) = Refuse why at
 byForm b m from (Form k p f) = byMarks b m from k p f
 
 -- 4, "board number (from ..) not in 1..n"; then by what was read of the record
 abbrev pub byBoard : Table → Marks → ℕ → Read → Plan
-byBoard b m from x = pick (not (isBoard b from)) (Refuse 4) (byForm b m from x)
+byBoard b m from x = pick (not (isBoard b from)) (Refuse 4 0) (byForm b m from x)
 
 -- what is looked at before any record: the state, then the lengths of the buffers, o of the outgoing and d of the delivery one; `refuse` says
 -- what a refusal is, by its number, and `next` what there is if none applies
@@ -69,9 +69,10 @@ pub record BuffersDo (s : List ℕ) (o d : ℕ) : Type 0 where
   pub out : outBytes ≤ o
   pub delivery : tableOf s .longest ≤ d
 
--- "a step looks in the order 3, 2, 4, 5, 6, 7, 8, 9, but a state buffer under 4,608 bytes gives 2 at once": by what was read of the record
+-- a step looks in the order 3, 2, 4, 20 to 25, 6, 7, 8, 9, "but a state buffer under 4,608 bytes gives 2 at once": by what was read of the
+-- record
 unfoldable pub planBy : List ℕ → ℕ → ℕ → ℕ → Read → Plan
-planBy s from o d x = afterBuffers s o d Refuse (byBoard (tableOf s) (marksOf s) from x)
+planBy s from o d x = afterBuffers s o d (λ (q : ℕ). Refuse q 0) (byBoard (tableOf s) (marksOf s) from x)
 
 -- by the record itself, read
 unfoldable pub planOf : List ℕ → ℕ → List ℕ → List ℕ → List ℕ → Plan

@@ -29,9 +29,9 @@ ghost use Rattle.board.specs.Started.{freshBytes, begun, startOf};
 // How many bytes of a state follow the table and the own number, before the fragments.
 const AFTER_TABLE: usize = FIXED_BYTES - MARKS;
 
-// What is to be done with a record: refuse it with a number, or take it.
+// What is to be done with a record: refuse it with a number, and with the place of the field at fault where there is one (else 0); or take it.
 pub enum Plan {
-    Refuse { number: u32 },
+    Refuse { number: u32, at: u32 },
     Take { kind: u8, nodes: usize, len: usize },
 }
 

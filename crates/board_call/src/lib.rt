@@ -18,10 +18,11 @@ ghost use Rattle.board_step.specs.Step.{stepped, outcome, good, takenOf, stepOf
 
 // The answer of a step that took its record.
 fn answered(put: u32, left: Delivered) -> Stepped
-    ensures { λ x. ⌜ x ≡ stepped 0 put (left .kind) (left .length) ⌝ }
+    ensures { λ x. ⌜ x ≡ stepped put (left .kind) (left .length) ⌝ }
 {
     Stepped {
         number: 0,
+        offset: 0,
         record_length: put,
         delivery: left.kind,
         message_length: left.length,
@@ -79,8 +80,9 @@ pub fn step(state: &mut [u8], from: usize, r: &[u8], out: &mut [u8], delivery: &
     ensures { λ x. ⌜ outcome x (now (state .exit)) (now (out .exit)) (now (delivery .exit)) ≡ stepOf (now (state .entry)) from (now (r .entry)) (now (out .entry)) (now (delivery .entry)) ⌝ }
 {
     match plan_for(state, from, r, out, delivery) {
-        Plan::Refuse { number } => Stepped {
+        Plan::Refuse { number, at } => Stepped {
             number: number,
+            offset: at,
             record_length: 0,
             delivery: 0,
             message_length: 0,

@@ -37,13 +37,13 @@ module _ (s : List ℕ) (h : Handed) (so : sound (view s) ≡ true) (room : stat
   abbrev own : ℕ
   own = ownOf s
 
-  refuses : (q : ℕ) → planOf s (h .from) (h .bytes) (h .out) (h .delivery) ≡ Refuse q → stepOn s h ≡ refused q s (h .out) (h .delivery)
+  refuses : (q a : ℕ) → planOf s (h .from) (h .bytes) (h .out) (h .delivery) ≡ Refuse q a → stepOn s h ≡ refused q a s (h .out) (h .delivery)
   unfolding stepOf byPlan
-  refuses q e = rw e
+  refuses q a e = rw e
 
   -- the state stays
-  goes-on : (q : ℕ) → planOf s (h .from) (h .bytes) (h .out) (h .delivery) ≡ Refuse q → (y : Figure) → Alike (figureOf s) y → FigureRun b own y s hs
-  goes-on q e y = subst (λ (v : List ℕ). (Alike (figureOf v) y → FigureRun b own y v hs)) (ap (λ z. z .state) (refuses q e)) (rest y)
+  goes-on : (q a : ℕ) → planOf s (h .from) (h .bytes) (h .out) (h .delivery) ≡ Refuse q a → (y : Figure) → Alike (figureOf s) y → FigureRun b own y s hs
+  goes-on q a e y = subst (λ (v : List ℕ). (Alike (figureOf v) y → FigureRun b own y v hs)) (ap (λ z. z .state) (refuses q a e)) (rest y)
 
   by-plan : (z : Plan) → planOf s (h .from) (h .bytes) (h .out) (h .delivery) ≡ z → FigureRun b own x s (h ∷ hs)
   unfolding readAs
@@ -57,14 +57,14 @@ module _ (s : List ℕ) (h : Handed) (so : sound (view s) ≡ true) (room : stat
       takes means fires
       (λ fs z f. let (w, f′, k) = fires-alike b own (receive b (h .from) m x) (receive b (h .from) m (figureOf s)) (alike-back _ _ alike) fs z f in g .only fs w f′ .0)
       (g .answer) (rest y then)
-  by-plan (Refuse q) e = go (refused-why s h so room q e)
+  by-plan (Refuse q a) e = go (refused-why s h so room q a e)
     where
-      go : NoMessage b h q ⊎ ((m : Message) × Means b h m × (passedOver q ≡ true) × Alike (receive b (h .from) m (figureOf s)) (figureOf s)) → FigureRun b own x s (h ∷ hs)
-      go (inl none-there) = misses none-there (refuses q e) (goes-on q e x l)
-      go (inr (m, means, number, idle)) =
+      go : NoMessage b h q a ⊎ ((a ≡ 0) × ((m : Message) × Means b h m × (passedOver q ≡ true) × Alike (receive b (h .from) m (figureOf s)) (figureOf s))) → FigureRun b own x s (h ∷ hs)
+      go (inl none-there) = misses none-there (refuses q a e) (goes-on q a e x l)
+      go (inr (none, (m, means, number, idle))) =
           let alike = receive-alike b own (h .from) m (figureOf s) x l in
           let same = alike-through (figureOf s) _ _ (alike-back _ _ idle) alike in
-          passes means number (still-alike b own (figureOf s) _ same (nothing-overdue s so)) (refuses q e) (goes-on q e _ same)
+          passes means number (still-alike b own (figureOf s) _ same (nothing-overdue s so)) (rw none at (refuses q a e)) (goes-on q a e _ same)
 
 runs : (hs : List Handed) → All OfBytes hs → (s : List ℕ) → All Byte s → sound (view s) ≡ true → stateSize (tableOf s) ≤ length s → (x : Figure) → Alike (figureOf s) x → FigureRun (tableOf s) (ownOf s) x s hs
 runs [] g s bytes so room x l = ends

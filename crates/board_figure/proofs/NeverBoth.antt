@@ -127,7 +127,7 @@ module _ (s : List ℕ) (from : ℕ) (r o d : List ℕ) (p f : ℕ) where
 module _ (s : List ℕ) (from : ℕ) (r o d : List ℕ) where
   by-plan : (x : Plan) → planOf s from r o d ≡ x → Either (byPlan x s from r o d)
   unfolding byPlan Either
-  by-plan (Refuse q) e = inl refl
+  by-plan (Refuse q a) e = inl refl
   by-plan (Take k p f) e =
       let t = taken s from r o d k p f e in
       let (one, few) = kind-few k (whole r k p f (t .form) .kind-ok) in

@@ -125,10 +125,10 @@ module _ (s : List ℕ) (h : Handed) (so : sound (view s) ≡ true) (room : stat
   Without q = (m : Message) × Means (tableOf s) h m × (passedOver q ≡ true) × Alike (receive (tableOf s) (h .from) m (figureOf s)) (figureOf s)
 
   Why : Plan → Type 0
-  Why (Refuse q) = NoMessage (tableOf s) h q ⊎ Without q
+  Why (Refuse q a) = NoMessage (tableOf s) h q a ⊎ ((a ≡ 0) × Without q)
   Why (Take k p f) = Unit {0}
 
-  why-pick : (c : Bool) (q : ℕ) (y : Plan) → (c ≡ true → NoMessage (tableOf s) h q ⊎ Without q) → (c ≡ false → Why y) → Why (pick c (Refuse q) y)
+  why-pick : (c : Bool) (q : ℕ) (y : Plan) → (c ≡ true → NoMessage (tableOf s) h q 0 ⊎ (_≡_ {A = ℕ} 0 0 × Without q)) → (c ≡ false → Why y) → Why (pick c (Refuse q 0) y)
   unfolding Why pick
   why-pick true q y f g = f refl
   why-pick false q y f g = g refl
@@ -143,25 +143,25 @@ module _ (s : List ℕ) (h : Handed) (so : sound (view s) ≡ true) (room : stat
 
     by-form : (x : Read) → parse (h .bytes) ≡ x → Why (byForm (tableOf s) (marksOf s) (h .from) x)
     unfolding byForm byMarks Why readAs
-    by-form (Fault w a) e = inl (malformed (rw e))
+    by-form (Fault w a) e = inl (malformed w a e)
     by-form (Form k p f) e =
         let b = tableOf s in
         let m = marksOf s in
         let A = isStray b (h .from) k in
         let B = isLate m k in
         let C = isAgain m (h .from - 1) k in
-        why-pick A 6 _ (λ c. inr (without 6 k p f refl e (rw c)))
+        why-pick A 6 _ (λ c. inr (refl, without 6 k p f refl e (rw c)))
         (λ a. why-pick (ltb (sMax b) f) 7 _ (λ c. inl (too-long k p f e (ltb-true (sMax b) f c)))
-        (λ l. why-pick B 8 _ (λ c. inr (without 8 k p f refl e (rw (a, c))))
-        (λ g. why-pick C 9 (Take k p f) (λ c. inr (without 9 k p f refl e (rw (a, g, c)))) (λ i. tt))))
+        (λ l. why-pick B 8 _ (λ c. inr (refl, without 8 k p f refl e (rw (a, c))))
+        (λ g. why-pick C 9 (Take k p f) (λ c. inr (refl, without 9 k p f refl e (rw (a, g, c)))) (λ i. tt))))
 
   -- a lent buffer is too short, and it is not the state
-  too-short : isShort (tableOf s) (length s) (length (h .out)) (length (h .delivery)) ≡ true → NoMessage (tableOf s) h 2
+  too-short : isShort (tableOf s) (length s) (length (h .out)) (length (h .delivery)) ≡ true → NoMessage (tableOf s) h 2 0
   unfolding isShort
   too-short = go (ltb (length s) (stateSize (tableOf s))) (ltb (length (h .out)) outBytes) refl refl
     where
       go : (c d : Bool) → ltb (length s) (stateSize (tableOf s)) ≡ c → ltb (length (h .out)) outBytes ≡ d
-          → (c || (d || ltb (length (h .delivery)) (tableOf s .longest))) ≡ true → NoMessage (tableOf s) h 2
+          → (c || (d || ltb (length (h .delivery)) (tableOf s .longest))) ≡ true → NoMessage (tableOf s) h 2 0
       go true d e g k = absurd (omega (arith, ltb-true (length s) (stateSize (tableOf s)) e))
       go false true e g k = short-out (ltb-true (length (h .out)) outBytes g)
       go false false e g k = short-delivery (ltb-true (length (h .delivery)) (tableOf s .longest) k)
@@ -175,9 +175,9 @@ module _ (s : List ℕ) (h : Handed) (so : sound (view s) ≡ true) (room : stat
       (λ l. why-pick (not (isBoard (tableOf s) (h .from))) 4 _ (λ c. inl (no-party (not-true (isBoard (tableOf s) (h .from)) c)))
       (λ k. by-form (not-false (isBoard (tableOf s) (h .from)) k) (parse (h .bytes)) refl))))
 
-  -- a record refused with 2, 4, 5 or 7 is no message; one refused with 6, 8 or 9 is received without effect; none is refused with 3
-  pub refused-why : (q : ℕ) → planOf s (h .from) (h .bytes) (h .out) (h .delivery) ≡ Refuse q
-      → NoMessage (tableOf s) h q
-      ⊎ ((m : Message) × Means (tableOf s) h m × (passedOver q ≡ true) × Alike (receive (tableOf s) (h .from) m (figureOf s)) (figureOf s))
+  -- a record refused with 2, 4, 7 or 20 to 25 is no message; one refused with 6, 8 or 9 is received without effect; none is refused with 3
+  pub refused-why : (q a : ℕ) → planOf s (h .from) (h .bytes) (h .out) (h .delivery) ≡ Refuse q a
+      → NoMessage (tableOf s) h q a
+      ⊎ ((a ≡ 0) × ((m : Message) × Means (tableOf s) h m × (passedOver q ≡ true) × Alike (receive (tableOf s) (h .from) m (figureOf s)) (figureOf s)))
   unfolding Why
-  refused-why q e = subst Why e why
+  refused-why q a e = subst Why e why

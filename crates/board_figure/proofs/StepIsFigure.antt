@@ -75,7 +75,7 @@ module _ (s : List ℕ) (from : ℕ) (r o d : List ℕ) (p f : ℕ) where
       → Only b own root (receive b from (messageOf k p f r) (figureOf s))
       → (w : List ℕ) (x : Left) → w ≡ putOut false (not (m .voted) && votedNow b true m s1 root) p f r
       → x ≡ delivered (endsNow b true m s1 root) (resultIn b m s1 root) d
-      → AsFigure s from r o d k p f (outcome (stepped 0 (length w) (x .kind) (x .size)) left (put 0 w o) (x .buffer))
+      → AsFigure s from r o d k p f (outcome (stepped (length w) (x .kind) (x .size)) left (put 0 w o) (x .buffer))
   words k m s1 left bytes g going flags table-stays own-stays shown received only w x ew ex =
       let a = not (m .voted) && votedNow b true m s1 root in
       let c = endsNow b true m s1 root in

@@ -67,7 +67,7 @@ send-output true q result d = refl
 send-output false q result d = refl
 
 pub answers : (es : List Event) (w : List ℕ) (x : Left) (s o d : List ℕ) → sentBy es ≡ w → outputBy es d ≡ x
-    → outcome (stepped 0 (length w) (x .kind) (x .size)) s (put 0 w o) (x .buffer) ≡ answered es s o d
+    → outcome (stepped (length w) (x .kind) (x .size)) s (put 0 w o) (x .buffer) ≡ answered es s o d
 unfolding answered
 answers es w x s o d e g = rw (e, g)
 

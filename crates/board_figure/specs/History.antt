@@ -41,16 +41,16 @@ pub record Means (b : Table) (h : Handed) (m : Message) : Type 0 where
   pub party : isBoard b (h .from) ≡ true
   pub reads : readAs (parse (h .bytes)) (h .bytes) ≡ some m
 
--- h is no message that figure 5 receives, by the number that it is refused with
-pub data NoMessage (b : Table) (h : Handed) : ℕ → Type 0 where
+-- h is no message that figure 5 receives, by the number and the offset that it is refused with
+pub data NoMessage (b : Table) (h : Handed) : ℕ → ℕ → Type 0 where
   -- 2, "a lent buffer shorter than needed": no step is taken with it
-  short-out : length (h .out) < outBytes → NoMessage b h 2
-  short-delivery : length (h .delivery) < b .longest → NoMessage b h 2
+  short-out : length (h .out) < outBytes → NoMessage b h 2 0
+  short-delivery : length (h .delivery) < b .longest → NoMessage b h 2 0
   -- 4, "board number .. not in 1..n": it comes from no party
-  no-party : isBoard b (h .from) ≡ false → NoMessage b h 4
-  -- 5 and 7, departure: "a malformed record or a fragment above s_max is refused"
-  malformed : readAs (parse (h .bytes)) (h .bytes) ≡ none → NoMessage b h 5
-  too-long : (k p f : ℕ) → parse (h .bytes) ≡ Form k p f → sMax b < f → NoMessage b h 7
+  no-party : isBoard b (h .from) ≡ false → NoMessage b h 4 0
+  -- 20 to 25 and 7, departure: "a malformed record or a fragment above s_max is refused"
+  malformed : (why at : ℕ) → parse (h .bytes) ≡ Fault why at → NoMessage b h why at
+  too-long : (k p f : ℕ) → parse (h .bytes) ≡ Form k p f → sMax b < f → NoMessage b h 7 0
 
 -- 6, 8 and 9: "send from a board other than S", "board done, or a send in the output stage", "second send, second echo or second vote"
 abbrev pub passedOver : ℕ → Bool
@@ -70,9 +70,9 @@ pub data FigureRun (b : Table) (own : ℕ) : Figure → List ℕ → List Handed
   -- refused with 6, 8 or 9: the message is received, and no branch is enabled
   passes : {x : Figure} {s : List ℕ} {h : Handed} {hs : List Handed} {m : Message} {q : ℕ} → Means b h m → passedOver q ≡ true
       → Still b own (receive b (h .from) m x)
-      → stepOn s h ≡ refused q s (h .out) (h .delivery)
+      → stepOn s h ≡ refused q 0 s (h .out) (h .delivery)
       → FigureRun b own (receive b (h .from) m x) s hs → FigureRun b own x s (h ∷ hs)
   -- refused with another number: it is no message
-  misses : {x : Figure} {s : List ℕ} {h : Handed} {hs : List Handed} {q : ℕ} → NoMessage b h q
-      → stepOn s h ≡ refused q s (h .out) (h .delivery)
+  misses : {x : Figure} {s : List ℕ} {h : Handed} {hs : List Handed} {q a : ℕ} → NoMessage b h q a
+      → stepOn s h ≡ refused q a s (h .out) (h .delivery)
       → FigureRun b own x s hs → FigureRun b own x s (h ∷ hs)

@@ -75,7 +75,7 @@ unfoldable pub answered : List Event → List ℕ → List ℕ → List ℕ → 
 answered es s o d =
     let w = sentBy es in
     let x = outputBy es d in
-    outcome (stepped 0 (length w) (x .kind) (x .size)) s (put 0 w o) (x .buffer)
+    outcome (stepped (length w) (x .kind) (x .size)) s (put 0 w o) (x .buffer)
 
 -- An accepted step is figure 5: the record is received, then every branch that is enabled fires until none is; what is sent and output on the
 -- way is the step's answer z and what it leaves in the buffers o and d; table and own number stay; and whichever enabled branch goes first, it

@@ -18,7 +18,7 @@ use Rattle.board.specs.declared.Plan.the-variants.{Refuse, Take}
 use Rattle.board.specs.Planned.{byBoard, BuffersDo, planOf}
 use Rattle.board.specs.Stepped.{recordRoot, marked, kept, votedNow, endsNow, leaves}
 use Rattle.board.proofs.Buffers.{ready-plan}
-use Rattle.board.proofs.Taken.{Taken, taken, listed}
+use Rattle.board.proofs.Taken.{Taken, taken, listed, listed-between}
 use Rattle.board_step.specs.declared.Stepped.{Stepped}
 use Rattle.board_step.specs.Step.{Outcome, stepped, outcome, good, putOut, saidBy, delivered, takenOf, byPlan, stepOf}
 use Rattle.board_step.proofs.Records.{said-room, room-most, no-vote}
@@ -31,9 +31,9 @@ use Rattle.board_mailbox.specs.Emptied.{Emptied, emptied, filed, handed}
 
 -- ---- what the refusal's number says of the plan
 
-number-of : (x : Plan) (q : ℕ) → q ≡ refusalIn x → (q ≡ 0 → ⊥) → x ≡ Refuse q
+number-of : (x : Plan) (q : ℕ) → q ≡ refusalIn x → (q ≡ 0 → ⊥) → (a : ℕ) × (x ≡ Refuse q a)
 unfolding refusalIn
-number-of (Refuse p) q e n = ap Refuse (sym e)
+number-of (Refuse p a) q e n = (a, ap (λ (q : ℕ). Refuse q a) (sym e))
 number-of (Take k p f) q e n = absurd (n e)
 
 -- a record that is taken has its kind, its count of nodes and its length in its bytes
@@ -44,7 +44,7 @@ pub record Takes (s : List ℕ) (from : ℕ) (r o d : List ℕ) : Type 0 where
 module _ (s : List ℕ) (from : ℕ) (r o d : List ℕ) where
   taken-by : (x : Plan) → planOf s from r o d ≡ x → 0 ≡ refusalIn x → Takes s from r o d
   unfolding refusalIn
-  taken-by (Refuse q) e z = let l = listed s from r o d q e in absurd (omega (arith, l .0, z))
+  taken-by (Refuse q a) e z = absurd (omega (arith, listed-between (listed s from r o d q a e) .0, z))
   taken-by (Take k p f) e z =
       let w = whole r k p f (taken s from r o d k p f e .form) in
       let len : length r - 39 - 32 * p ≡ f = omega (arith, w .ends) in
@@ -54,19 +54,19 @@ module _ (s : List ℕ) (from : ℕ) (r o d : List ℕ) where
     planned : q ≡ refusalIn (planOf s from r o d)
     planned = e ∙ ap refusalIn (sym (ready-plan s from r o d h))
 
-    pub refused-by : (q ≡ 0 → ⊥) → planOf s from r o d ≡ Refuse q
+    pub refused-by : (q ≡ 0 → ⊥) → (a : ℕ) × (planOf s from r o d ≡ Refuse q a)
     refused-by n = number-of (planOf s from r o d) q planned n
 
     pub takes-now : q ≡ 0 → Takes s from r o d
     takes-now z = taken-by (planOf s from r o d) refl (sym z ∙ planned)
 
-  few : (x : Plan) → planOf s from r o d ≡ x → refusalIn x ≤ 9
+  few : (x : Plan) → planOf s from r o d ≡ x → refusalIn x ≤ 25
   unfolding refusalIn
-  few (Refuse q) e = listed s from r o d q e .1
+  few (Refuse q a) e = listed-between (listed s from r o d q a e) .1
   few (Take k p f) e = omega arith
 
   -- a refusal's number fits into a byte
-  pub number-few : BuffersDo s (length o) (length d) → (q : ℕ) → q ≡ refusalIn (byBoard (tableOf s) (marksOf s) from (parse r)) → q ≤ 9
+  pub number-few : BuffersDo s (length o) (length d) → (q : ℕ) → q ≡ refusalIn (byBoard (tableOf s) (marksOf s) from (parse r)) → q ≤ 25
   number-few h q e = rw (planned h q e) (few (planOf s from r o d) refl)
 
 -- ---- what is filed
@@ -126,7 +126,7 @@ module _ (i : ℕ) (m : Mailed) (s a e v d : List ℕ) where
 
   -- a record w, put out into the echo buffer, and what is left beside it
   filed-by : (w s2 d2 : List ℕ) (z n : ℕ) → length w ≤ length e
-      → filed i (outcome (stepped 0 (length w) z n) s2 (put 0 w e) d2) before
+      → filed i (outcome (stepped (length w) z n) s2 (put 0 w e) d2) before
       ≡ emptied (filedDelivery z n (filedVote (pick (eqb (getD w 0 0) 3) (length w) 0) (filedEcho (pick (eqb (getD w 0 0) 2) (length w) 0) m))) s2
       (put i (0 ∷ []) a) (pick (eqb (getD w 0 0) 2) (put 0 w e) e) (pick (eqb (getD w 0 0) 3) (put 0 w v) v) d2
   unfolding filed
@@ -139,7 +139,7 @@ module _ (i : ℕ) (m : Mailed) (s a e v d : List ℕ) where
 
   -- after a send it is an echo
   filed-send : (g : Bool) (p f : ℕ) (r s2 d2 : List ℕ) (z n : ℕ) → length (putOut g false p f r) ≤ length e
-      → filed i (outcome (stepped 0 (length (putOut g false p f r)) z n) s2 (put 0 (putOut g false p f r) e) d2) before
+      → filed i (outcome (stepped (length (putOut g false p f r)) z n) s2 (put 0 (putOut g false p f r) e) d2) before
       ≡ emptied (filedDelivery z n (filedEcho (length (putOut g false p f r)) m)) s2 (put i (0 ∷ []) a) (put 0 (putOut g false p f r) e) v d2
   unfolding putOut pick recordOf filedVote put
   filed-send true p f r s2 d2 z n h = filed-by (putOut true false p f r) s2 d2 z n h
@@ -147,7 +147,7 @@ module _ (i : ℕ) (m : Mailed) (s a e v d : List ℕ) where
 
   -- after an echo or a vote it is a vote
   filed-word : (g : Bool) (p f : ℕ) (r s2 d2 : List ℕ) (z n : ℕ) → length (putOut false g p f r) ≤ length e
-      → filed i (outcome (stepped 0 (length (putOut false g p f r)) z n) s2 (put 0 (putOut false g p f r) e) d2) before
+      → filed i (outcome (stepped (length (putOut false g p f r)) z n) s2 (put 0 (putOut false g p f r) e) d2) before
       ≡ emptied (filedDelivery z n (filedVote (length (putOut false g p f r)) m)) s2 (put i (0 ∷ []) a) e (put 0 (putOut false g p f r) v) d2
   unfolding putOut pick recordOf filedEcho put
   filed-word true p f r s2 d2 z n h = filed-by (putOut false true p f r) s2 d2 z n h
@@ -181,9 +181,9 @@ module _ (i : ℕ) (m : Mailed) (s a e v d : List ℕ) (from : ℕ) (r : List �
   abbrev item : Item
   item = record { board = from; bytes = r }
 
-  pub handed-refused : (q : ℕ) → planOf s from r e d ≡ Refuse q → emptied m s (put i (q ∷ []) a) e v d ≡ handed i item (emptied m s a e v d)
+  pub handed-refused : (q at : ℕ) → planOf s from r e d ≡ Refuse q at → emptied m s (put i (q ∷ []) a) e v d ≡ handed i item (emptied m s a e v d)
   unfolding handed filed stepOf byPlan filedDelivery filedVote filedEcho pick part
-  handed-refused q h = rw h
+  handed-refused q at h = rw h
 
   -- what a send that was taken leaves, by what its step leaves
   afterSend : Outcome → Emptied
@@ -198,7 +198,7 @@ module _ (i : ℕ) (m : Mailed) (s a e v d : List ℕ) (from : ℕ) (r : List �
       let room : length (putOut ok false p f r) ≤ length e = omega (arith, rw w at (said-short s from r p f ok e d 1 t), t .out) in
       rw (h, w) (sym (filed-send i m s a e v d ok p f r (leaves ok 1 p f from r s) d 0 0 room))
 
-  pub handed-send : (p f x : ℕ) (s2 e2 : List ℕ) → planOf s from r e d ≡ Take 1 p f → outcome (stepped 0 x 0 0) s2 e2 d ≡ takenOf 1 p f s from r e d
+  pub handed-send : (p f x : ℕ) (s2 e2 : List ℕ) → planOf s from r e d ≡ Take 1 p f → outcome (stepped x 0 0) s2 e2 d ≡ takenOf 1 p f s from r e d
       → emptied (filedEcho x m) s2 (put i (0 ∷ []) a) e2 v d ≡ handed i item (emptied m s a e v d)
   unfolding afterSend
   handed-send p f x s2 e2 h y = ap afterSend y ∙ send-by p f h
@@ -228,6 +228,6 @@ module _ (i : ℕ) (m : Mailed) (s a e v d : List ℕ) (from : ℕ) (r : List �
 -- a send brings no delivery: what the functions leave is what the definition says
 pub takes-send : (s : List ℕ) (from : ℕ) (r e d : List ℕ) (p f : ℕ) (ok : Bool) (s2 e2 : List ℕ) (len : ℕ) → ok ≡ good 1 p f from r s
     → s2 ≡ leaves ok 1 p f from r s → len ≡ length (saidBy ok 1 p f from r s) → e2 ≡ put 0 (saidBy ok 1 p f from r s) e
-    → outcome (stepped 0 len 0 0) s2 e2 d ≡ takenOf 1 p f s from r e d
+    → outcome (stepped len 0 0) s2 e2 d ≡ takenOf 1 p f s from r e d
 unfolding takenOf endsNow delivered pick
 takes-send s from r e d p f ok s2 e2 len ey es el eo = rw (← ey, ← es, ← el, ← eo)

@@ -112,11 +112,11 @@ module _ (s : List ℕ) (from : ℕ) (r o d : List ℕ) (k p f : ℕ) (t : Taken
 -- ---- any step
 
 module _ (s : List ℕ) (from : ℕ) (r o d : List ℕ) (flag : Marks → Bool) (does : Outcome → Bool)
-    (refuses : (q : ℕ) → does (byPlan (Refuse q) s from r o d) ≡ false)
+    (refuses : (q a : ℕ) → does (byPlan (Refuse q a) s from r o d) ≡ false)
     (takes : (k p f : ℕ) → Taken s from r o d k p f → OnlyOnce flag does s (takenOf k p f s from r o d)) where
   by-plan : (x : Plan) → planOf s from r o d ≡ x → OnlyOnce flag does s (byPlan x s from r o d)
   unfolding byPlan
-  by-plan (Refuse q) e = record { first = λ h. never (sym (refuses q) ∙ h); sets = λ h. never (sym (refuses q) ∙ h); keeps = λ h. h }
+  by-plan (Refuse q a) e = record { first = λ h. never (sym (refuses q a) ∙ h); sets = λ h. never (sym (refuses q a) ∙ h); keeps = λ h. h }
   by-plan (Take k p f) e = takes k p f (taken s from r o d k p f e)
 
   once-by : OnlyOnce flag does s (stepOf s from r o d)
@@ -160,20 +160,20 @@ module _ (flag : Marks → Bool) (does : Outcome → Bool) (once : (s : List ℕ
   at-most-one i [] x = omega arith
   at-most-one i (item ∷ rest) x = once-more i item rest x (does (stepFor item x)) refl (at-most-one (i + 1) rest (handed i item x))
 
-no-put : (s : List ℕ) (from : ℕ) (r o d : List ℕ) (q : ℕ) (k : ℕ) → eqb 0 k ≡ false → isPut k (byPlan (Refuse q) s from r o d) ≡ false
+no-put : (s : List ℕ) (from : ℕ) (r o d : List ℕ) (q a k : ℕ) → eqb 0 k ≡ false → isPut k (byPlan (Refuse q a) s from r o d) ≡ false
 unfolding byPlan part
-no-put s from r o d q k e = e
+no-put s from r o d q a k e = e
 
-no-delivery : (s : List ℕ) (from : ℕ) (r o d : List ℕ) (q : ℕ) → delivers (byPlan (Refuse q) s from r o d) ≡ false
+no-delivery : (s : List ℕ) (from : ℕ) (r o d : List ℕ) (q a : ℕ) → delivers (byPlan (Refuse q a) s from r o d) ≡ false
 unfolding byPlan
-no-delivery s from r o d q = refl
+no-delivery s from r o d q a = refl
 
 -- any step
 pub echo-steps : (s : List ℕ) (from : ℕ) (r o d : List ℕ) → OnlyOnce (λ (m : Marks). m .acquired) (isPut 2) s (stepOf s from r o d)
-echo-steps s from r o d = once-by s from r o d (λ (m : Marks). m .acquired) (isPut 2) (λ q. no-put s from r o d q 2 refl) (λ k p f t. echo-once s from r o d k p f t)
+echo-steps s from r o d = once-by s from r o d (λ (m : Marks). m .acquired) (isPut 2) (λ q a. no-put s from r o d q a 2 refl) (λ k p f t. echo-once s from r o d k p f t)
 
 pub vote-steps : (s : List ℕ) (from : ℕ) (r o d : List ℕ) → OnlyOnce (λ (m : Marks). m .voted) (isPut 3) s (stepOf s from r o d)
-vote-steps s from r o d = once-by s from r o d (λ (m : Marks). m .voted) (isPut 3) (λ q. no-put s from r o d q 3 refl) (λ k p f t. vote-once s from r o d k p f t)
+vote-steps s from r o d = once-by s from r o d (λ (m : Marks). m .voted) (isPut 3) (λ q a. no-put s from r o d q a 3 refl) (λ k p f t. vote-once s from r o d k p f t)
 
 pub delivery-steps : (s : List ℕ) (from : ℕ) (r o d : List ℕ) → OnlyOnce (λ (m : Marks). m .done) delivers s (stepOf s from r o d)
 delivery-steps s from r o d = once-by s from r o d (λ (m : Marks). m .done) delivers (no-delivery s from r o d) (λ k p f t. delivery-once s from r o d k p f t)

@@ -12,7 +12,7 @@ use Rattle.board_mailbox.specs.declared.Mailed.{Mailed}
 
 -- the number by which a plan refuses, or 0
 unfoldable pub refusalIn : Plan → ℕ
-refusalIn (Refuse q) = q
+refusalIn (Refuse q a) = q
 refusalIn (Take k p f) = 0
 
 -- a state and buffers that no refusal before the items applies to

@@ -21,7 +21,7 @@ ghost use Prim.Native.Nat.{ℕ, _≤_, _<_};
 ghost use lib.ListN.{length};
 ghost use Rattle.octets.specs.Bytes.{put};
 ghost use Rattle.table.specs.Table.{limits};
-ghost use Rattle.record.specs.Form.{outBytes, voteBytes, parse};
+ghost use Rattle.record.specs.Form.{outBytes, parse};
 ghost use Rattle.state.specs.State.{fixedBytes, tableOf, marksOf};
 ghost use Rattle.board.specs.declared.Plan.the-variants.{Take};
 ghost use Rattle.board.specs.Planned.{byBoard, planOf};
@@ -119,7 +119,7 @@ fn record_refusal(s: &[u8], from: usize, r: &[u8]) -> u32
     ensures { λ x. ⌜ x ≡ refusalIn (byBoard (tableOf (now (s .entry))) (marksOf (now (s .entry))) from (parse (now (r .entry)))) ⌝ }
 {
     match plan_record(s, from, r) {
-        Plan::Refuse { number } => number,
+        Plan::Refuse { number, at: _ } => number,
         Plan::Take {
             kind: _,
             nodes: _,
@@ -142,7 +142,7 @@ fn finish(s: &[u8], r: &[u8], delivery: &mut [u8]) -> Delivered
 // Takes a send: the length of the echo put out. A send brings no delivery.
 fn take_send(s: &mut [u8], from: usize, r: &[u8], echo: &mut [u8], nodes: usize, len: usize) -> u32
     requires { ⌜ ((o : List ℕ) × ((d : List ℕ) × (planOf (now s) from (now r) o d ≡ Take 1 nodes len))) × (outBytes ≤ length (now echo)) ⌝ }
-    ensures { λ x. ⌜ ((d : List ℕ) → outcome (stepped 0 x 0 0) (now (s .exit)) (now (echo .exit)) d ≡ takenOf 1 nodes len (now (s .entry)) from (now (r .entry)) (now (echo .entry)) d) ⌝ }
+    ensures { λ x. ⌜ ((d : List ℕ) → outcome (stepped x 0 0) (now (s .exit)) (now (echo .exit)) d ≡ takenOf 1 nodes len (now (s .entry)) from (now (r .entry)) (now (echo .entry)) d) ⌝ }
 {
     let good = is_good(s, from, r, 1, nodes, len);
     take_in(s, from, r, echo, 1, nodes, len, good)
@@ -167,6 +167,7 @@ fn take_word(
     let left = finish(s, r, delivery);
     Stepped {
         number: 0,
+        offset: 0,
         record_length: put,
         delivery: left.kind,
         message_length: left.length,

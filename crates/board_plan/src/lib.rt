@@ -45,16 +45,16 @@ fn by_marks(b: Table, m: Marks, from: usize, kind: u8, nodes: usize, len: usize)
     ensures { λ r. ⌜ r ≡ byMarks b m from kind nodes len ⌝ }
 {
     if stray(b, from, kind) {
-        return Plan::Refuse { number: 6 };
+        return Plan::Refuse { number: 6, at: 0 };
     }
     if fragment_most(b) < len {
-        return Plan::Refuse { number: 7 };
+        return Plan::Refuse { number: 7, at: 0 };
     }
     if late(m, kind) {
-        return Plan::Refuse { number: 8 };
+        return Plan::Refuse { number: 8, at: 0 };
     }
     if again(m, from - 1, kind) {
-        return Plan::Refuse { number: 9 };
+        return Plan::Refuse { number: 9, at: 0 };
     }
     Plan::Take {
         kind: kind,
@@ -100,10 +100,13 @@ pub fn plan_record(s: &[u8], from: usize, r: &[u8]) -> Plan
 {
     let b = read_table(s);
     if !is_board(b, from) {
-        return Plan::Refuse { number: 4 };
+        return Plan::Refuse { number: 4, at: 0 };
     }
     match read_record(r) {
-        Read::Fault { why: _, at: _ } => Plan::Refuse { number: 5 },
+        Read::Fault { why, at } => Plan::Refuse {
+            number: why,
+            at: at,
+        },
         Read::Form { kind, nodes, len } => by_marks(b, read_marks(s), from, kind, nodes, len),
     }
 }
@@ -115,7 +118,7 @@ pub fn plan_for(s: &[u8], from: usize, r: &[u8], out: &[u8], delivery: &[u8]) ->
 {
     let q = first_refusal(s, out.len(), delivery.len());
     if q != 0 {
-        return Plan::Refuse { number: q };
+        return Plan::Refuse { number: q, at: 0 };
     }
     plan_record(s, from, r)
 }

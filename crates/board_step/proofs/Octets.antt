@@ -52,7 +52,7 @@ module _ (s : List ℕ) (from : ℕ) (r o d : List ℕ) (hs : All Byte s) (hr : 
 
   by-plan : (x : Plan) → All Byte (byPlan x s from r o d .state)
   unfolding byPlan takenOf saidBy leaves
-  by-plan (Refuse q) = hs
+  by-plan (Refuse q a) = hs
   by-plan (Take k p f) = all-put Byte (marksBytes _) _ 6 (marks-bytes _) (kept-bytes (sMax (tableOf s)) k p f)
 
   pub step-bytes : All Byte (stepOf s from r o d .state)

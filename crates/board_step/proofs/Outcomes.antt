@@ -1,6 +1,7 @@
 -- What holds of every step: a refusal writes nothing, the promises fix one outcome, what is left is sound, and what is put out is a record.
 use mathlib.Core.Path.{_≡_, refl, sym, ap, _∙_}
 use Prim.Native.Nat.{ℕ, _-_, _≤_}
+use mathlib.Core.Logic.{_⊎_, inl, inr}
 use mathlib.Core.List.{List, []}
 use mathlib.Core.Bool.{Bool, true, false, not, _&&_}
 use mathlib.Core.Option.{Option, none, some}
@@ -26,7 +27,7 @@ use Rattle.board.specs.declared.Plan.the-variants.{Refuse, Take}
 use Rattle.board.specs.Planned.{planOf}
 use Rattle.board.specs.Started.{begun, startOf}
 use Rattle.board.specs.Stepped.{recordRoot, recordPath, recordFragment, marked, kept, votedNow}
-use Rattle.board.proofs.Taken.{Taken, taken, listed}
+use Rattle.board.proofs.Taken.{Taken, taken, Listed, listed, listed-between}
 use Rattle.board.proofs.KeptLaws.{left-table, left-own, left-length}
 use Rattle.board.proofs.StepSound.{step-sound}
 use Rattle.deliver.specs.Delivered.{leftBy}
@@ -37,15 +38,28 @@ use Rattle.board_step.proofs.Records.{root-length, path-length, fragmen
 use Rattle.board_step.proofs.Taking.{formed}
 
 module _ (s : List ℕ) (from : ℕ) (r o d : List ℕ) where
-  keeps : (x : Plan) → (byPlan x s from r o d .answer .number ≡ 0 → ⊥) → byPlan x s from r o d ≡ refused (byPlan x s from r o d .answer .number) s o d
+  keeps : (x : Plan) → (byPlan x s from r o d .answer .number ≡ 0 → ⊥) → byPlan x s from r o d ≡ refused (byPlan x s from r o d .answer .number) (byPlan x s from r o d .answer .offset) s o d
   unfolding byPlan takenOf saidBy
-  keeps (Refuse q) h = refl
+  keeps (Refuse q a) h = refl
   keeps (Take k p f) h = absurd (h refl)
 
   -- "a refusal returns its number with zeros for every other result and writes nothing"
-  pub refusal-keeps : (stepOf s from r o d .answer .number ≡ 0 → ⊥) → stepOf s from r o d ≡ refused (stepOf s from r o d .answer .number) s o d
+  pub refusal-keeps : (stepOf s from r o d .answer .number ≡ 0 → ⊥) → stepOf s from r o d ≡ refused (stepOf s from r o d .answer .number) (stepOf s from r o d .answer .offset) s o d
   unfolding stepOf
   refusal-keeps = keeps (planOf s from r o d)
+
+  offsets : (x : Plan) → planOf s from r o d ≡ x
+      → ((byPlan x s from r o d .answer .number ≡ 0) × (byPlan x s from r o d .answer .offset ≡ 0))
+      ⊎ Listed (length r) (byPlan x s from r o d .answer .number) (byPlan x s from r o d .answer .offset)
+  unfolding byPlan takenOf saidBy
+  offsets (Refuse q a) e = inr (listed s from r o d q a e)
+  offsets (Take k p f) e = inl (refl, refl)
+
+  -- "with every other answer the offset is 0": beside 20 to 25 it is at most the record's length
+  pub offset-placed : ((stepOf s from r o d .answer .number ≡ 0) × (stepOf s from r o d .answer .offset ≡ 0))
+      ⊎ Listed (length r) (stepOf s from r o d .answer .number) (stepOf s from r o d .answer .offset)
+  unfolding stepOf
+  offset-placed = offsets (planOf s from r o d) refl
 
   -- the promise of a step fixes its answer and every buffer
   pub step-one : (x y : Stepped) (sx ox dx sy oy dy : List ℕ) → outcome x sx ox dx ≡ stepOf s from r o d → outcome y sy oy dy ≡ stepOf s from r o d
@@ -56,7 +70,7 @@ module _ (s : List ℕ) (from : ℕ) (r o d : List ℕ) where
 
   sound-by : (x : Plan) → planOf s from r o d ≡ x → byPlan x s from r o d .answer .number ≡ 0 → sound (view (byPlan x s from r o d .state)) ≡ true
   unfolding byPlan takenOf saidBy
-  sound-by (Refuse q) e h = let l = listed s from r o d q e in absurd (omega (arith, l .0, h))
+  sound-by (Refuse q a) e h = absurd (omega (arith, listed-between (listed s from r o d q a e) .0, h))
   sound-by (Take k p f) e h = step-sound s from r o d (good k p f from r s) k p f e
 
   -- "whatever state .. a step leaves is sound"
@@ -84,7 +98,7 @@ pub record Stays (s o d s2 o2 d2 : List ℕ) : Type 0 where
 module _ (s : List ℕ) (from : ℕ) (r o d : List ℕ) (so : sound (view s) ≡ true) where
   stays-by : (x : Plan) → planOf s from r o d ≡ x → Stays s o d (byPlan x s from r o d .state) (byPlan x s from r o d .out) (byPlan x s from r o d .delivery)
   unfolding byPlan takenOf saidBy
-  stays-by (Refuse q) e = record { table = refl; own = refl; size = refl; out = refl; delivery = refl; still-sound = so }
+  stays-by (Refuse q a) e = record { table = refl; own = refl; size = refl; out = refl; delivery = refl; still-sound = so }
   stays-by (Take k p f) e =
       let ok = good k p f from r s in
       record {

@@ -223,6 +223,6 @@ module _ (s : List ℕ) (from : ℕ) (r o d : List ℕ) (k p f : ℕ) (t : Taken
       → len ≡ length (saidBy ok k p f from r s)
       → o2 ≡ put 0 (saidBy ok k p f from r s) w
       → left x d2 ≡ delivered (marksOf s2 .done) (resultIn (tableOf s2) (marksOf s2) s2 (recordRoot r)) d
-      → outcome (stepped 0 len (x .kind) (x .length)) s2 o2 d2 ≡ takenOf k p f s from r w d
+      → outcome (stepped len (x .kind) (x .length)) s2 o2 d2 ≡ takenOf k p f s from r w d
   unfolding takenOf saidBy
   takes w s2 o2 d2 len x ey es el eo ex = rw (← ey, ← result-left s2 d2 x es ex, ← es, ← el, ← eo)

@@ -21,9 +21,9 @@ use Rattle.deliver.specs.Delivered.{Left, resultOf, leftBy}
 use Rattle.board_step.specs.declared.Stepped.{Stepped}
 
 -- "each accepted step answers 0, the length of the record put out (0 for none ..), and the delivery (none, message with length, void)":
--- a delivery is 0 for none, 1 for a message, 2 for void
-abbrev pub stepped : ℕ → ℕ → ℕ → ℕ → Stepped
-stepped number len delivery size = record { number = number; «record_length» = len; delivery = delivery; «message_length» = size }
+-- a delivery is 0 for none, 1 for a message, 2 for void; "with every other answer the offset is 0"
+abbrev pub stepped : ℕ → ℕ → ℕ → Stepped
+stepped len delivery size = record { number = 0; offset = 0; «record_length» = len; delivery = delivery; «message_length» = size }
 
 -- what a step leaves: its answer, and every buffer lent to be written
 pub record Outcome : Type 0 where
@@ -36,9 +36,10 @@ pub record Outcome : Type 0 where
 abbrev pub outcome : Stepped → List ℕ → List ℕ → List ℕ → Outcome
 outcome answer s o d = record { answer = answer; state = s; out = o; delivery = d }
 
--- "Refusal numbers": "a refusal returns its number with zeros for every other result and writes nothing"
-abbrev pub refused : ℕ → List ℕ → List ℕ → List ℕ → Outcome
-refused q s o d = outcome (stepped q 0 0 0) s o d
+-- "Refusal numbers": "a refusal returns its number with zeros for every other result and writes nothing"; a fault of the record's form has
+-- the offset a beside its number
+abbrev pub refused : ℕ → ℕ → List ℕ → List ℕ → List ℕ → Outcome
+refused q a s o d = outcome (record { number = q; offset = a; «record_length» = 0; delivery = 0; «message_length» = 0 }) s o d
 
 -- the board at whose place a record's path is looked at: of a send, "if the path is correct for the own number"; of an echo from i,
 -- "if the path is correct at i"
@@ -88,11 +89,11 @@ takenOf k p f s from r o d =
     let s1 = kept (sMax b) k (from - 1) p f r s in
     let w = saidBy yes k p f from r s in
     let x = delivered (endsNow b (not (eqb k 1)) m s1 (recordRoot r)) (resultIn b m s1 (recordRoot r)) d in
-    outcome (stepped 0 (length w) (x .kind) (x .size)) (leaves yes k p f from r s) (put 0 w o) (x .buffer)
+    outcome (stepped (length w) (x .kind) (x .size)) (leaves yes k p f from r s) (put 0 w o) (x .buffer)
 
 -- refused, or taken
 unfoldable pub byPlan : Plan → List ℕ → ℕ → List ℕ → List ℕ → List ℕ → Outcome
-byPlan (Refuse q) s from r o d = refused q s o d
+byPlan (Refuse q a) s from r o d = refused q a s o d
 byPlan (Take k p f) s from r o d = takenOf k p f s from r o d
 
 -- a board's step: the state s, the record r from a board, the outgoing record buffer o, the delivery buffer d

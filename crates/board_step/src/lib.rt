@@ -31,10 +31,12 @@ ghost use Rattle.deliver.specs.Delivered.{left};
 ghost use Rattle.board_step.specs.Asked.{Formed, outRoom, Deliverable};
 ghost use Rattle.board_step.specs.Step.{placeOf, good, putOut, saidBy, resultIn, delivered};
 
-// What a step answers: 0 or a refusal's number, the length of the record put out, the delivery (0 none, 1 a message, 2 void) and its length.
+// What a step answers: 0 or a refusal's number; beside 20 to 25 the place of the field at fault, else 0; the length of the record put out; the
+// delivery (0 none, 1 a message, 2 void) and its length.
 #[repr(C)]
 pub struct Stepped {
     pub number: u32,
+    pub offset: u32,
     pub record_length: u32,
     pub delivery: u32,
     pub message_length: u32,

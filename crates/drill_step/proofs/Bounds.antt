@@ -1,6 +1,6 @@
 -- How large the results of a step are, whatever its state and its record: from what the step itself asks of its buffers.
 use mathlib.Core.Path.{_≡_, refl}
-use Prim.Native.Nat.{ℕ, _+_, _-_, _*_, _≤_, _<_}
+use Prim.Native.Nat.{ℕ, _+_, _-_, _*_, _≤_}
 use mathlib.Core.List.{List}
 use mathlib.Core.Bool.{Bool, true, false, not, _&&_}
 use mathlib.Core.Option.{Option, none, some}
@@ -17,7 +17,7 @@ use Rattle.board.specs.declared.Plan.{Plan}
 use Rattle.board.specs.declared.Plan.the-variants.{Refuse, Take}
 use Rattle.board.specs.Planned.{planOf}
 use Rattle.board.specs.Stepped.{recordRoot, marked, kept, votedNow, endsNow}
-use Rattle.board.proofs.Taken.{Taken, taken, listed}
+use Rattle.board.proofs.Taken.{Taken, taken, listed, listed-between}
 use Rattle.deliver.specs.Delivered.{leftBy}
 use Rattle.deliver.proofs.Results.{result-root}
 use Rattle.board_step.specs.Asked.{Formed}
@@ -28,7 +28,7 @@ use Rattle.record.proofs.Round.{vote-length}
 
 -- a number that is a refusal's or 0, a record of at most 1,022 bytes, a message of at most 64
 pub record Bounded (x : Outcome) : Type 0 where
-  pub number : x .answer .number ≤ 9
+  pub number : x .answer .number ≤ 25
   pub put-out : x .answer .«record_length» ≤ 1022
   pub message : x .answer .«message_length» ≤ 64
 
@@ -70,7 +70,7 @@ module _ (s : List ℕ) (from : ℕ) (r o d : List ℕ) (ls : length s ≡ 5084)
 
   by-plan : (p : Plan) → planOf s from r o d ≡ p → Bounded (byPlan p s from r o d)
   unfolding byPlan
-  by-plan (Refuse q) e = let (l, h) = listed s from r o d q e in record { number = h; put-out = omega arith; message = omega arith }
+  by-plan (Refuse q a) e = record { number = listed-between (listed s from r o d q a e) .1; put-out = omega arith; message = omega arith }
   by-plan (Take k p f) e = taken-bounded k p f (taken s from r o d k p f e)
 
   pub step-bounded : Bounded (stepOf s from r o d)

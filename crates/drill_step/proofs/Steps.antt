@@ -1,6 +1,6 @@
 -- What the receiver's step leaves, and how large its results are.
 use mathlib.Core.Path.{_≡_, sym, ap, _∙_}
-use Prim.Native.Nat.{ℕ, _+_, _-_, _*_, _≤_, _<_}
+use Prim.Native.Nat.{ℕ, _+_, _-_, _*_, _≤_}
 use mathlib.Core.List.{List}
 use native.Mathlib.Omega.{arith}
 use borrow.Rule.Slice.PartMut.{putMid}
@@ -46,7 +46,7 @@ module _ (states : List ℕ) (from to : ℕ) (r : List ℕ) (lo : 1 ≤ to) (hi 
   bounded = step-bounded (stateAt (to - 1) states) from r (zeros outBytes) (zeros 64) state-long (zeros-length 64)
 
   module _ (x : Stepped) (states′ out d : List ℕ) (S : Stepping states from to r x states′ out d) where
-    pub number-few : x .number ≤ 9
+    pub number-few : x .number ≤ 25
     number-few = rw (S .answer-is) (bounded .number)
 
     pub record-short : x .«record_length» ≤ 1022

@@ -85,7 +85,7 @@ pub fn run(
 ) -> Shown
     requires { ⌜ Handing b (now message) (fromIn (now line)) (toIn (now line)) (now line) (now kept) × DrillRoom (now states) (now kept) (now handed) (now out) (now delivery) ⌝ }
     ensures { λ r. ⌜ (turn r (take (r .size) (now (delivery .exit))) (boardsIn (now (states .exit)) (now (kept .exit)))
-        ≡ turnOf b (now (message .entry)) (boardsIn (now (states .entry)) (now (kept .entry))) (now (line .entry))) × (r .answer ≤ 14) × (r .size ≤ 64) ⌝ }
+        ≡ turnOf b (now (message .entry)) (boardsIn (now (states .entry)) (now (kept .entry))) (now (line .entry))) × (r .answer ≤ 25) × (r .size ≤ 64) ⌝ }
 {
     let kind = drill_lines::kind_in(line);
     let from = drill_words::number_in(line, 1);

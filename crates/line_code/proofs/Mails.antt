@@ -15,8 +15,9 @@ use Rattle.code_encode.specs.Message.{fragmentFor}
 use Rattle.code_encode.proofs.Sizes.{rows-most, fragment-length}
 use Rattle.tree.specs.Tree.{treeOf, depth, rootOf, pathOf, flat}
 use Rattle.tree.proofs.Checks.{path-length}
-use Rattle.record.specs.Form.{recordOf, partsOk}
-use Rattle.record.proofs.PartLaws.{parts-pass}
+use Rattle.record.specs.Form.{recordOf}
+use Rattle.record.proofs.PartLaws.{Fits, parts-pass}
+use Rattle.record.proofs.PartLaws as P
 use Rattle.board_send.specs.Sent.{sendRecord}
 use Rattle.board_send.proofs.Sends.{send-form}
 use Rattle.line.specs.Boards.{Board}
@@ -41,11 +42,11 @@ mail-sent b limited m j fits board =
 
 module _ (b : Table) (limited : limits b ≡ true) (m : List ℕ) (j : ℕ) (fits : Sendable b m) (board : Board (b .n) j) where
   -- root, path and fragment of a message are a send's
-  sent-fits : partsOk 1 (length (rootOf (b .n) (fragmentFor b m))) (length (flat (pathOf (b .n) (fragmentFor b m) (j - 1))))
-      (length (fragmentFor b m (j - 1))) ≡ true
+  sent-fits : Fits 1 (length (rootOf (b .n) (fragmentFor b m))) (length (flat (pathOf (b .n) (fragmentFor b m) (j - 1))))
+      (length (fragmentFor b m (j - 1)))
   sent-fits =
       let f = send-form b m j limited (board .low) (board .high) (fits .fits) in
-      rw (f .root, f .path, f .fragment) at (parts-pass (sendRecord b m j) 1 (depth (treeOf (b .n)) (j - 1)) (rows (kOf b) (length m)) (f .reads))
+      P.fits 1 _ _ _ 1 _ _ (rw (f .root, f .path, f .fragment) at (parts-pass (sendRecord b m j) 1 (depth (treeOf (b .n)) (j - 1)) (rows (kOf b) (length m)) (f .reads)))
 
   sent-good : Good 1 (rootOf (b .n) (fragmentFor b m)) (flat (pathOf (b .n) (fragmentFor b m) (j - 1))) (fragmentFor b m (j - 1))
   sent-good = record {

@@ -1,21 +1,21 @@
 -- Records: what is read can be written with another kind byte, and what is written so is read back.
 -- Assumes nothing.
-use Prim.Native.Nat.{ℕ, _+_, _*_, _/_, _<_}
+use Prim.Native.Nat.{ℕ, _+_, _*_, _/_, _<_, _%_}
 use mathlib.Core.Path.{_≡_, refl, subst}
 use mathlib.Core.Bool.{Bool, true, false}
 use mathlib.Core.List.{List, [], _++_}
 use mathlib.Core.Option.{Option, none, some}
 use native.Mathlib.Omega.{arith}
-use borrow.Author.Tests.{eqb-true}
+use borrow.Author.Tests.{eqb-true, le-leb}
 use lib.Dec.{eqb}
 use lib.ListN.{length}
 use Rattle.octets.specs.Bytes.{pick, part, two}
 use Rattle.code.specs.Code.{All, Byte}
 use Rattle.code.proofs.Lists.{all-append, part-bytes, two-bytes}
-use Rattle.record.specs.Form.{parse, isKind, nodesMost, fragmentOk, recordOf, partsOk}
+use Rattle.record.specs.Form.{parse, isKind, nodesMost, pathOk, fragmentOk, recordOf, formOf}
 use Rattle.record.specs.declared.Read.{Read}
 use Rattle.record.specs.declared.Read.the-variants.{Form, Fault}
-use Rattle.record.proofs.PartLaws.{known, kind-few, parts-read, parts-pass}
+use Rattle.record.proofs.PartLaws.{Fits, fits, known, kind-few, parts-read, parts-pass}
 use Rattle.record.proofs.Sections.{record-root, record-path, record-fragment}
 use Rattle.line.proofs.Tests.{off, none-some}
 use Rattle.line_fragments.specs.Step.{send, echo, vote}
@@ -25,7 +25,7 @@ use Rattle.line_code.proofs.ByteLaws.{all-bytes, bytes-all}
 
 -- root, path and fragment that a record of kind k can have
 pub record Good (k : ℕ) (r π f : List ℕ) : Type 0 where
-  pub fits : partsOk k (length r) (length π) (length f) ≡ true
+  pub fits : Fits k (length r) (length π) (length f)
   pub root-bytes : All Byte r
   pub path-bytes : All Byte π
   pub fragment-bytes : All Byte f
@@ -48,12 +48,12 @@ module _ (k : ℕ) (r π f : List ℕ) (g : Good k r π f) where
 
   written-bytes : bytes written ≡ true
   written-bytes =
-      let few = kind-few k (known k (length r) (length π) (length f) (g .fits) .kind-ok) in
+      let few = kind-few k (known k (length r) (length π) (length f) k (length π / 32) (length f) (g .fits) .kind-ok) in
       all-bytes written (record-bytes k (length π / 32) r π f (omega arith) (g .root-bytes) (g .path-bytes) (g .fragment-bytes))
 
   parts-back : ofKind k (part 3 32 written) (part 37 (32 * (length π / 32)) written) (part (39 + 32 * (length π / 32)) (length f) written) ≡ ofKind k r π f
   parts-back =
-      let w = known k (length r) (length π) (length f) (g .fits) in
+      let w = known k (length r) (length π) (length f) k (length π / 32) (length f) (g .fits) in
       let p = length π / 32 in
       let a = w .root-len in
       let c = w .path-len in
@@ -61,7 +61,7 @@ module _ (k : ℕ) (r π f : List ℕ) (g : Good k r π f) where
 
   pub read-written : readRecord (recordOf k r (length π / 32) π f) ≡ ofKind k r π f
   unfolding readRecord recordRead pick
-  read-written = rw (written-bytes, parts-read k r π f (g .fits)) parts-back
+  read-written = rw (written-bytes, parts-read k r π f k (length π / 32) (length f) (g .fits)) parts-back
 
 -- ---- what is read can be written
 
@@ -83,7 +83,7 @@ says-of s (Form k p f) ρ h e q = record {
   path = part 37 (32 * p) s;
   fragment = part (39 + 32 * p) f s;
   good = record {
-    fits = parts-pass s k p f e;
+    fits = fits k _ _ _ k p f (parts-pass s k p f e);
     root-bytes = part-bytes 3 32 s h;
     path-bytes = part-bytes 37 (32 * p) s h;
     fragment-bytes = part-bytes (39 + 32 * p) f s h;
@@ -146,15 +146,26 @@ echo-good s r π f e =
 -- ---- another kind byte
 
 -- a send's root, path and fragment are an echo's
+echo-fits : (root path fragment : ℕ) → Fits 1 root path fragment → Fits 2 root path fragment
+unfolding formOf isKind pathOk nodesMost fragmentOk pick
+echo-fits root path fragment h =
+    let w = known 1 root path fragment 1 (path / 32) fragment h in
+    let z : path % 32 ≡ 0 = omega (arith, w .path-len) in
+    rw (w .root-len, z, le-leb (path / 32) 6 (w .nodes), w .fragment-ok)
+
 pub good-echo : (r π f : List ℕ) → Good 1 r π f → Good 2 r π f
-unfolding partsOk isKind nodesMost fragmentOk pick
-good-echo r π f g = record { fits = g .fits; root-bytes = g .root-bytes; path-bytes = g .path-bytes; fragment-bytes = g .fragment-bytes }
+good-echo r π f g = record {
+  fits = echo-fits (length r) (length π) (length f) (g .fits);
+  root-bytes = g .root-bytes;
+  path-bytes = g .path-bytes;
+  fragment-bytes = g .fragment-bytes;
+}
 
 -- a record's root is a vote's
 pub good-vote : (k : ℕ) (r π f : List ℕ) → Good k r π f → Good 3 r [] []
-unfolding partsOk isKind nodesMost fragmentOk pick
+unfolding formOf isKind pathOk nodesMost fragmentOk pick
 good-vote k r π f g =
-    let w = known k (length r) (length π) (length f) (g .fits) in
+    let w = known k (length r) (length π) (length f) k (length π / 32) (length f) (g .fits) in
     record { fits = rw (w .root-len); root-bytes = g .root-bytes; path-bytes = tt; fragment-bytes = tt }
 
 pub vote-good : (s r : List ℕ) → readRecord s ≡ some (vote r) → Good 3 r [] []

@@ -59,7 +59,7 @@ echoIn r p f = echo (recordRoot r) (recordPath p r) (recordFragment p f r)
 
 -- a plan for the record r, and an act that does the same
 pub data Follow (b : Table) (from : ℕ) (r : List ℕ) : Plan → Act (lineOf b) → Type 0 where
-  refuses : {q : ℕ} → Follow b from r (Refuse q) refuse
+  refuses : {q a : ℕ} → Follow b from r (Refuse q a) refuse
   sends : {p f : ℕ} → Follow b from r (Take 1 p f) (take from (sendIn r p f))
   echoes : {p f : ℕ} → Follow b from r (Take 2 p f) (take from (echoIn r p f))
   votes : {p f : ℕ} → Follow b from r (Take 3 p f) (take from (vote (recordRoot r)))
@@ -73,7 +73,7 @@ module _ (b : Table) (own from : ℕ) (r : List ℕ) (m : Marks) (s : List ℕ) 
 
   -- the refusals of each kind, in their order: a board, its sender, its length, late, again
   send-chain : (p f : ℕ) (c a l d o q : Bool)
-      → Follow b from r (pick (not c) (Refuse 4) (pick (not a) (Refuse 6) (pick (not l) (Refuse 7) (pick (d || o) (Refuse 8) (pick q (Refuse 9) (Take 1 p f))))))
+      → Follow b from r (pick (not c) (Refuse 4 0) (pick (not a) (Refuse 6 0) (pick (not l) (Refuse 7 0) (pick (d || o) (Refuse 8 0) (pick q (Refuse 9 0) (Take 1 p f))))))
       (pick (c && (a && (l && (not d && (not o && not q))))) (take from (sendIn r p f)) refuse)
   unfolding pick
   send-chain p f false a l d o q = refuses
@@ -85,7 +85,7 @@ module _ (b : Table) (own from : ℕ) (r : List ℕ) (m : Marks) (s : List ℕ) 
   send-chain p f true true true false false false = sends
 
   echo-chain : (p f : ℕ) (c l d q e : Bool) → (c ≡ true → e ≡ q)
-      → Follow b from r (pick (not c) (Refuse 4) (pick (not l) (Refuse 7) (pick (d || false) (Refuse 8) (pick q (Refuse 9) (Take 2 p f)))))
+      → Follow b from r (pick (not c) (Refuse 4 0) (pick (not l) (Refuse 7 0) (pick (d || false) (Refuse 8 0) (pick q (Refuse 9 0) (Take 2 p f)))))
       (pick (c && (l && (not d && not e))) (take from (echoIn r p f)) refuse)
   unfolding pick
   echo-chain p f false l d q e h = refuses
@@ -97,7 +97,7 @@ module _ (b : Table) (own from : ℕ) (r : List ℕ) (m : Marks) (s : List ℕ) 
   echo-chain p f true true false false true h = off (cc (h refl))
 
   vote-chain : (p f : ℕ) (c d q e : Bool) → (c ≡ true → e ≡ q)
-      → Follow b from r (pick (not c) (Refuse 4) (pick (d || false) (Refuse 8) (pick q (Refuse 9) (Take 3 p f))))
+      → Follow b from r (pick (not c) (Refuse 4 0) (pick (d || false) (Refuse 8 0) (pick q (Refuse 9 0) (Take 3 p f))))
       (pick (c && (not d && not e)) (take from (vote (recordRoot r))) refuse)
   unfolding pick
   vote-chain p f false d q e h = refuses
@@ -115,7 +115,7 @@ module _ (b : Table) (own from : ℕ) (r : List ℕ) (m : Marks) (s : List ℕ) 
   same-board set h = member-before set from (leb-true 1 from (and-l (leb 1 from) _ h))
 
   abbrev Follows : ℕ → ℕ → ℕ → Type 0
-  Follows k p f = Follow b from r (pick (not (isBoard b from)) (Refuse 4) (byMarks b m from k p f)) (actOn B S from (ofKind k (recordRoot r) (recordPath p r) (recordFragment p f r)))
+  Follows k p f = Follow b from r (pick (not (isBoard b from)) (Refuse 4 0) (byMarks b m from k p f)) (actOn B S from (ofKind k (recordRoot r) (recordPath p r) (recordFragment p f r)))
 
   send-follows : (p f : ℕ) → Whole r 1 p f → Follows 1 p f
   unfolding byMarks isStray isLate isAgain ofKind pick isBoard
@@ -142,14 +142,14 @@ module _ (b : Table) (own from : ℕ) (r : List ℕ) (m : Marks) (s : List ℕ) 
   by-kind (suc (suc (suc zero))) p f l h w = vote-follows p f w
   by-kind (suc (suc (suc (suc k)))) p f l h w = absurd (omega arith)
 
-  fault : (c : Bool) → Follow b from r (pick (not c) (Refuse 4) (Refuse 5)) refuse
+  fault : (c : Bool) (why at : ℕ) → Follow b from r (pick (not c) (Refuse 4 0) (Refuse why at)) refuse
   unfolding pick
-  fault true = refuses
-  fault false = refuses
+  fault true why at = refuses
+  fault false why at = refuses
 
-  follow-by : (x : Read) → parse r ≡ x → Follow b from r (pick (not (isBoard b from)) (Refuse 4) (byForm b m from x)) (actOn B S from (recordRead r x))
+  follow-by : (x : Read) → parse r ≡ x → Follow b from r (pick (not (isBoard b from)) (Refuse 4 0) (byForm b m from x)) (actOn B S from (recordRead r x))
   unfolding byForm recordRead
-  follow-by (Fault why at) e = fault (isBoard b from)
+  follow-by (Fault why at) e = fault (isBoard b from) why at
   follow-by (Form k p f) e =
       let w = whole r k p f e in
       let (one, few) = kind-few k (w .kind-ok) in
@@ -159,7 +159,7 @@ module _ (b : Table) (own from : ℕ) (r : List ℕ) (m : Marks) (s : List ℕ) 
 module _ (b : Table) (own : ℕ) (s : List ℕ) (tb : tableOf s ≡ b) (so : sound (view s) ≡ true) (room : stateSize b ≤ length s)
     (from : ℕ) (r o d : List ℕ) (ho : outBytes ≤ length o) (hd : b .longest ≤ length d) where
   -- no refusal 2 or 3
-  pub plan-is : planOf s from r o d ≡ pick (not (isBoard b from)) (Refuse 4) (byForm b (marksOf s) from (parse r))
+  pub plan-is : planOf s from r o d ≡ pick (not (isBoard b from)) (Refuse 4 0) (byForm b (marksOf s) from (parse r))
   unfolding planOf planBy isShort stateSize pick
   plan-is = rw (
     le-ltb (length s) fixedBytes (omega arith),

@@ -52,7 +52,7 @@ module _ (s : List ℕ) (from : ℕ) (r : List ℕ) (hs : All Byte s) (hr : All 
 
   plan-strings : (x : Plan) → Strings (planStrings x s from r)
   unfolding planStrings
-  plan-strings (Refuse q) = tt
+  plan-strings (Refuse q a) = tt
   plan-strings (Take k p f) = joined (pathStrings k p f s from r) (deliveryStrings k p f s from r) (path-strings k p f) (delivery-strings k p f)
 
 -- what a board holds is bytes

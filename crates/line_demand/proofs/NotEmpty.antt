@@ -30,7 +30,7 @@ use Rattle.line_code.proofs.Mails.{mail-sent, mail-laws}
 use Rattle.line_demand.specs.Boards.{Desk, Sends, boards}
 use Rattle.line_demand.proofs.Demand.{of-mail}
 use Rattle.line_demand.proofs.Void.{small, small-limits, pieceOf, pathsOf, resultOfAll, lone, lone-correct, lone-void, lies, lies-correct, lies-void}
-use Rattle.line_demand.proofs.Refusals.{RefusedWith, Refuses, empty-five, forged-six, second-nine}
+use Rattle.line_demand.proofs.Refusals.{RefusedWith, Refuses, empty-twenty, forged-six, second-nine}
 use Rattle.line_demand.proofs.Meets.{Met, blank, blank-roomy, runOf, RefusedBy, met, breaks, strays-only, refuses, sendings, kept-run}
 
 -- Board i breaks the rules in it: no choice of rule-keeping boards with i among them makes the run fair.
@@ -44,7 +44,7 @@ pub record Forged (b : Table) (keeps : ℕ → Bool) (m m′ : List ℕ) (i k : 
   pub breaks-send : Breaks meets i
   pub breaks-empty : Breaks meets k
   pub refused-send : (j : ℕ) → Board (b .n) j → Refuses b (blank b) (meets .run) j i (mail (lineOf b) m′ j) 6
-  pub refused-empty : (j : ℕ) → Board (b .n) j → Refuses b (blank b) (meets .run) j k [] 5
+  pub refused-empty : (j : ℕ) → Board (b .n) j → Refuses b (blank b) (meets .run) j k [] 20
   pub nothing-else : (a j : ℕ) (x : List ℕ) → (T (keeps a) → ⊥) → Took (boards b (blank b)) j (hand a x) (meets .run)
       → ((a ≡ i) × (x ≡ mail (lineOf b) m′ j)) ⊎ ((a ≡ k) × (x ≡ []))
 
@@ -171,8 +171,8 @@ module _ (b : Table) (limited : limits b ≡ true) (m : List ℕ) (fits : Sendab
           refused-send = λ j c. refuses b limited sent X all-refuse h few most m 1 j 6 one c
               (λ r d here shown. subst (RefusedWith 6 d (from 1)) (sym (mail-sent b limited m′ j fits′ c))
               (forged-six b limited (blank b) (blank-roomy b) r j d here (from 1) c₁ m′ fits′ j c (not-sender 1 one))) .0;
-          refused-empty = λ j c. refuses b limited sent X all-refuse h few most m 2 j 5 two c
-              (λ r d here shown. empty-five b limited (blank b) (blank-roomy b) r j d here (from 2) c₂) .0;
+          refused-empty = λ j c. refuses b limited sent X all-refuse h few most m 2 j 20 two c
+              (λ r d here shown. empty-twenty b limited (blank b) (blank-roomy b) r j d here (from 2) c₂) .0;
           nothing-else = λ a j x out t. (
               let S : Board h (b .sender) = record { low = line-laws b limited .sender .low; high = sender } in
               let (k, c, e, q) = strays-only b limited sent X all-refuse h few most m a j x (λ e. out (is-known (subst (Board h) (sym e) S)))

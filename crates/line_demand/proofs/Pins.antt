@@ -16,9 +16,9 @@ use Rattle.line_demand.specs.Boards.{Desk, Lend}
 use Rattle.line_demand.specs.Strings.{pathStrings, deliveryStrings, planStrings, stepStrings}
 
 -- a record that is refused
-pub refused-none : (q : ℕ) (s : List ℕ) (from : ℕ) (r : List ℕ) → planStrings (Refuse q) s from r ≡ []
+pub refused-none : (q a : ℕ) (s : List ℕ) (from : ℕ) (r : List ℕ) → planStrings (Refuse q a) s from r ≡ []
 unfolding planStrings
-refused-none q s from r = refl
+refused-none q a s from r = refl
 
 -- what is no string of bytes, and an order of the board's own firmware
 pub no-bytes-none : (d : Desk) (i : ℕ) (r : List ℕ) → bytes r ≡ false → stepStrings (some d) (hand i r) ≡ []

@@ -45,7 +45,7 @@ module _ (b : Table) (limited : limits b ≡ true) (lent : ℕ → Desk) (keeps 
 
     -- a record is refused for what it is and who it comes from, and for nothing else
     pub run-plans : (i : ℕ) (x : List ℕ)
-        → planOf (d .state) i x (d .out) (d .delivery) ≡ pick (not (isBoard b i)) (Refuse 4) (byForm b (marksOf (d .state)) i (parse x))
+        → planOf (d .state) i x (d .out) (d .delivery) ≡ pick (not (isBoard b i)) (Refuse 4 0) (byForm b (marksOf (d .state)) i (parse x))
     run-plans i x =
         let h = held in
         plan-is b j (d .state) (h .table) (h .is-sound) (h .room) i x (d .out) (d .delivery) (h .out) (h .delivery)

@@ -26,9 +26,9 @@ use Rattle.line_demand.specs.Boards.{Desk, Roomy, boards}
 use Rattle.line_demand.proofs.Carry.{board-is}
 use Rattle.line_demand.proofs.Reached.{run-plans}
 
--- the step refuses the record x of board i with the number q, and leaves every buffer as it was
+-- the step refuses the record x of board i with the number q and the offset 0, and leaves every buffer as it was
 abbrev pub RefusedWith : ℕ → Desk → ℕ → List ℕ → Type 0
-RefusedWith q d i x = stepOf (d .state) i x (d .out) (d .delivery) ≡ refused q (d .state) (d .out) (d .delivery)
+RefusedWith q d i x = stepOf (d .state) i x (d .out) (d .delivery) ≡ refused q 0 (d .state) (d .out) (d .delivery)
 
 -- at some point of the run board j is handed the record x of board i, and refuses it with q
 pub record Refuses (b : Table) (lent : ℕ → Desk) (run : Run (boards b lent)) (j i : ℕ) (x : List ℕ) (q : ℕ) : Type 0 where
@@ -38,7 +38,7 @@ pub record Refuses (b : Table) (lent : ℕ → Desk) (run : Run (boards b lent))
   pub here : state (boards b lent) before j ≡ some desk
   pub refusal : RefusedWith q desk i x
 
-by-plan : (q : ℕ) (d : Desk) (i : ℕ) (x : List ℕ) → planOf (d .state) i x (d .out) (d .delivery) ≡ Refuse q → RefusedWith q d i x
+by-plan : (q : ℕ) (d : Desk) (i : ℕ) (x : List ℕ) → planOf (d .state) i x (d .out) (d .delivery) ≡ Refuse q 0 → RefusedWith q d i x
 unfolding stepOf byPlan
 by-plan q d i x e = rw e
 
@@ -49,10 +49,10 @@ module _ (b : Table) (limited : limits b ≡ true) (lent : ℕ → Desk) (roomy 
   unfolding pick
   plan-is x = run-plans b limited lent (λ l. true) (λ l kl. roomy l) r j tt d here i x ∙ rw (board-is b i bd)
 
-  -- 5, "record not of the form above": the empty one
-  pub empty-five : RefusedWith 5 d i []
+  -- "a record of no bytes: 20 at 0"
+  pub empty-twenty : RefusedWith 20 d i []
   unfolding byForm parse pick
-  empty-five = by-plan 5 d i [] (plan-is [])
+  empty-twenty = by-plan 20 d i [] (plan-is [])
 
   module _ (m : List ℕ) (fits : Sendable b m) (k : ℕ) (c : Board (b .n) k) where
     send-plan : planOf (d .state) i (sendRecord b m k) (d .out) (d .delivery)

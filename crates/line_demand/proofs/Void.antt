@@ -25,7 +25,8 @@ use Rattle.code.specs.Block.{header, rows, block, readable, blockMessage}
 use Rattle.code_encode.specs.Message.{fragmentFor}
 use Rattle.code_through.specs.Through.{marks, attach, slopes, through, blockThrough}
 use Rattle.deliver.specs.Delivered.{allOfLength, blockRead, readFrom, afresh, resultFrom, resultOf}
-use Rattle.record.specs.Form.{isKind, nodesMost, fragmentOk, partsOk}
+use Rattle.record.specs.Form.{isKind, nodesMost, pathOk, fragmentOk, formOf}
+use Rattle.record.proofs.PartLaws.{Fits}
 use Rattle.line.specs.Boards.{Board, known}
 use Rattle.line_fragments.proofs.Spreads.{upTo, Correct}
 use Rattle.line_code.specs.Parts.{bitsOf, lineOf}
@@ -52,8 +53,8 @@ two-nodes (suc (suc (suc zero))) b = refl
 two-nodes (suc (suc (suc (suc zero)))) b = refl
 two-nodes (suc (suc (suc (suc (suc i))))) b = absurd (omega arith)
 
-parts-fit : (p l : ℕ) → p ≡ 64 → 1 ≤ l → l ≤ 10 → partsOk 1 32 p l ≡ true
-unfolding partsOk isKind nodesMost fragmentOk pick
+parts-fit : (p l : ℕ) → p ≡ 64 → 1 ≤ l → l ≤ 10 → Fits 1 32 p l
+unfolding formOf isKind pathOk nodesMost fragmentOk pick
 parts-fit p l e least few = rw (e, le-leb 1 l least, le-leb l 16388 (omega arith))
 
 -- fragment and path of board i, where the fragments are g 0, g 1, g 2, g 3

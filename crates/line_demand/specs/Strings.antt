@@ -39,7 +39,7 @@ deliveryStrings k p f s from r =
 
 -- "records that rule-keeping boards accept": a record that is refused has no strings
 unfoldable pub planStrings : Plan → List ℕ → ℕ → List ℕ → List (List ℕ)
-planStrings (Refuse q) s from r = []
+planStrings (Refuse q a) s from r = []
 planStrings (Take k p f) s from r = pathStrings k p f s from r ++ deliveryStrings k p f s from r
 
 -- the strings hashed in a board's step

@@ -30,7 +30,7 @@ module _ (s : List ℕ) (from : ℕ) (r o o′ d : List ℕ) where
 
   by-plan : (x : Plan) → Alike (byPlan x s from r o d) (byPlan x s from r o′ d)
   unfolding byPlan takenOf
-  by-plan (Refuse q) = record { answer = refl; state = refl; delivery = refl }
+  by-plan (Refuse q a) = record { answer = refl; state = refl; delivery = refl }
   by-plan (Take k p f) = record { answer = refl; state = refl; delivery = refl }
 
   alike : outBytes ≤ length o → outBytes ≤ length o′ → Alike (stepOf s from r o d) (stepOf s from r o′ d)

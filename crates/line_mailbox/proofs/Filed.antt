@@ -92,7 +92,7 @@ module _ (s : List ℕ) (from : ℕ) (r o d : List ℕ) where
 
   by-plan : (x : Plan) → planOf s from r o d ≡ x → Steps (byPlan x s from r o d)
   unfolding byPlan
-  by-plan (Refuse q) e = record {
+  by-plan (Refuse q a) e = record {
     short = omega arith;
     kinds = inl refl;
     vote-short = λ h. omega arith;

@@ -13,7 +13,7 @@ use Rattle.record.specs.declared.Read.{Read}
 use Rattle.record.specs.declared.Read.the-variants.{Form, Fault}
 
 -- a test on the way to a whole record was passed
-passed : (b : Bool) (x : Read) (w a k p f : ℕ) → pick b x (Fault w a) ≡ Form k p f → (b ≡ true) × (x ≡ Form k p f)
+pub passed : (b : Bool) (x : Read) (w a k p f : ℕ) → pick b x (Fault w a) ≡ Form k p f → (b ≡ true) × (x ≡ Form k p f)
 unfolding pick
 passed true x w a k p f e = (refl, e)
 passed false x w a k p f e = absurd (let z : _≡_ {A = ℕ} 0 1 = cc in omega arith)

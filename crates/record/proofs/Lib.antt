@@ -5,3 +5,4 @@ pub mod Writes
 pub mod Round
 pub mod PartLaws
 pub mod Sections
+pub mod Cuts

@@ -8,6 +8,7 @@ use lib.Dec.{leb, eqb}
 use Rattle.octets.specs.Bytes.{pick, twoAt, two}
 use Rattle.record.specs.declared.Read.{Read}
 use Rattle.record.specs.declared.Read.the-variants.{Form, Fault}
+use Rattle.record.specs.declared.Written.{Written}
 
 -- "a field that the bytes end inside or before is cut off at that field's start": next, unless the bytes end before a + n
 abbrev pub need : List ℕ → ℕ → ℕ → Read → Read
@@ -65,10 +66,19 @@ parse s =
 unfoldable pub recordOf : ℕ → List ℕ → ℕ → List ℕ → List ℕ → List ℕ
 recordOf k root p path fragment = k ∷ (two 32 ++ (root ++ (two p ++ (path ++ (two (length fragment) ++ fragment)))))
 
--- whether a record of kind k can have a root, a path and a fragment of so many bytes
-unfoldable pub partsOk : ℕ → ℕ → ℕ → ℕ → Bool
-partsOk k root path fragment =
-    isKind k && (eqb root 32 && (eqb (path % 32) 0 && (leb (path / 32) (nodesMost k) && fragmentOk k fragment)))
+-- "a path of no whole number of nodes is 23", and so is one of more nodes than a record of kind k has
+unfoldable pub pathOk : ℕ → ℕ → Bool
+pathOk k path = eqb (path % 32) 0 && leb (path / 32) (nodesMost k)
+
+-- the form of a record of kind k with a root, a path and a fragment of so many bytes, or the first field at fault "with the offset that the
+-- field would have in the record"
+unfoldable pub formOf : ℕ → ℕ → ℕ → ℕ → Read
+formOf k root path fragment =
+    field (isKind k) 21 0
+    (field (eqb root 32) 22 1
+    (field (pathOk k path) 23 35
+    (field (fragmentOk k fragment) 24 (37 + path)
+    (Form k (path / 32) fragment))))
 
 -- "an outgoing record buffer 16,619" bytes: as many as the longest record has
 abbrev pub outBytes : ℕ
@@ -77,6 +87,10 @@ outBytes = 16619
 -- "a vote record has 39 bytes": so many are enough for a buffer that is for votes alone
 abbrev pub voteBytes : ℕ
 voteBytes = 39
+
+-- the answer of a call that writes a record: "with every other answer the offset is 0"
+abbrev pub answered : ℕ → ℕ → ℕ → Written
+answered number offset len = record { number = number; offset = offset; length = len }
 
 -- what writing a record asks of its parts and of the buffer o
 pub record Parts (o root : List ℕ) (p : ℕ) (path fragment : List ℕ) : Type 0 where

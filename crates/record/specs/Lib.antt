@@ -1,2 +1,3 @@
 -- What the contracts of `record` cite.
 pub mod Form
+pub mod Fields

@@ -5,7 +5,7 @@ use octets::two_at;
 ghost use mathlib.Core.Path.{_≡_};
 ghost use Prim.Native.Nat.{_≤_};
 ghost use Rattle.octets.specs.Bytes.{put};
-ghost use Rattle.record.specs.Form.{Parts, recordOf, partsOk, parse, parseRoot, parsePath, parseFragment, nodesMost, fragmentOk};
+ghost use Rattle.record.specs.Form.{Parts, recordOf, formOf, isKind, nodesMost, pathOk, fragmentOk, parse, parseRoot, parsePath, parseFragment};
 
 // How many bytes an outgoing record buffer needs: as many as the longest record has.
 pub const OUT_BYTES: usize = 16619;
@@ -17,7 +17,22 @@ pub const VOTE_BYTES: usize = 39;
 pub enum Read {
     Form { kind: u8, nodes: usize, len: usize },
     // The first field at fault: why, by document 02's numbers, and where it starts.
-    Fault { why: u32, at: usize },
+    Fault { why: u32, at: u32 },
+}
+
+// What writing a record answers: 0, or a refusal's number, and beside 20 to 25 the place of the field at fault; the record's length.
+#[repr(C)]
+pub struct Written {
+    pub number: u32,
+    pub offset: u32,
+    pub length: u32,
+}
+
+// Whether it is a kind of record: 1 a send, 2 an echo, 3 a vote.
+fn is_kind(kind: u32) -> bool
+    ensures { λ r. ⌜ r ≡ isKind kind ⌝ }
+{
+    if kind < 1 { false } else { kind <= 3 }
 }
 
 // The most path nodes of a kind.
@@ -25,6 +40,16 @@ fn most_nodes(kind: u32) -> usize
     ensures { λ r. ⌜ (r ≡ nodesMost kind) × (r ≤ 6) ⌝ }
 {
     if kind == 3 { 0 } else { 6 }
+}
+
+// Whether so many bytes are a path that a record of a kind may have.
+fn whole_nodes(kind: u32, path: usize) -> bool
+    ensures { λ r. ⌜ r ≡ pathOk kind path ⌝ }
+{
+    if path % 32 != 0 {
+        return false;
+    }
+    path / 32 <= most_nodes(kind)
 }
 
 // Whether a record of a kind may have so many fragment bytes.
@@ -46,22 +71,28 @@ fn read_fragment(s: &[u8], kind: u8, nodes: usize, at: usize) -> Read
     ensures { λ r. ⌜ r ≡ parseFragment (now (s .entry)) kind nodes at ⌝ }
 {
     if s.len() < at + 2 {
-        return Read::Fault { why: 20, at: at };
+        return Read::Fault {
+            why: 20,
+            at: at as u32,
+        };
     }
     let len = two_at(s, at);
     if !fragment_ok(kind as u32, len) {
-        return Read::Fault { why: 24, at: at };
+        return Read::Fault {
+            why: 24,
+            at: at as u32,
+        };
     }
     if s.len() < at + 2 + len {
         return Read::Fault {
             why: 20,
-            at: at + 2,
+            at: (at + 2) as u32,
         };
     }
     if at + 2 + len < s.len() {
         return Read::Fault {
             why: 25,
-            at: at + 2 + len,
+            at: (at + 2 + len) as u32,
         };
     }
     Read::Form {
@@ -121,26 +152,30 @@ pub fn read_record(s: &[u8]) -> Read
     }
 }
 
-// Whether a record of a kind can have a root, a path and a fragment of so many bytes.
-pub fn parts_ok(kind: u32, root: usize, path: usize, fragment: usize) -> bool
-    ensures { λ r. ⌜ r ≡ partsOk kind root path fragment ⌝ }
+// The form of a record with a root, a path and a fragment of so many bytes, or the first field at fault and where it would start.
+pub fn form_of(kind: u32, root: usize, path: usize, fragment: usize) -> Read
+    ensures { λ r. ⌜ r ≡ formOf kind root path fragment ⌝ }
 {
-    if kind < 1 {
-        return false;
-    }
-    if 3 < kind {
-        return false;
+    if !is_kind(kind) {
+        return Read::Fault { why: 21, at: 0 };
     }
     if root != 32 {
-        return false;
+        return Read::Fault { why: 22, at: 1 };
     }
-    if path % 32 != 0 {
-        return false;
+    if !whole_nodes(kind, path) {
+        return Read::Fault { why: 23, at: 35 };
     }
-    if most_nodes(kind) < path / 32 {
-        return false;
+    if !fragment_ok(kind, fragment) {
+        return Read::Fault {
+            why: 24,
+            at: (37 + path) as u32,
+        };
     }
-    fragment_ok(kind, fragment)
+    Read::Form {
+        kind: kind as u8,
+        nodes: path / 32,
+        len: fragment,
+    }
 }
 
 // The record of these parts, written to the start of `out`.

@@ -12,7 +12,7 @@ use Rattle.octets.specs.Bytes.{pick, part, put, tab, fourAt}
 use Rattle.octets.specs.Sets.{has}
 use Rattle.octets.specs.declared.Sized.{Sized}
 use Rattle.octets.proofs.Picks.{never}
-use Rattle.record.specs.Form.{outBytes, isKind, nodesMost, fragmentOk, partsOk}
+use Rattle.record.specs.Form.{outBytes, isKind, nodesMost, pathOk, fragmentOk, formOf, answered}
 use Rattle.record.proofs.Round.{vote-length}
 use Rattle.table.specs.Table.{limits, kOf, sMax, mostOf, someOf}
 use Rattle.table.specs.declared.Table.{Table}
@@ -30,7 +30,7 @@ use Rattle.code_calls.proofs.RoundTrip.{Marked, rebuild-gives}
 use Rattle.board.specs.Started.{begun, startOf}
 use Rattle.board_send.specs.Sent.{sendRefusal, sendOut, sendBy, sendOf}
 use Rattle.tumbeliko.specs.Tables.{tableFrom}
-use Rattle.tumbeliko.specs.Records.{writeRefusal, writeBy, writeOf}
+use Rattle.tumbeliko.specs.Records.{writeBy, writeOf}
 
 -- "n 4, t 1", with any sender and any L
 abbrev pub fourBoards : ℕ → ℕ → Table
@@ -73,7 +73,7 @@ pub record ByHand : Type 0 where
   pub path-lengths : (fragments : ℕ → List ℕ) → (length (pathOf 5 fragments 0) ≡ 3) × (length (pathOf 5 fragments 1) ≡ 3) × (length (pathOf 5 fragments 2) ≡ 3)
       × (length (pathOf 5 fragments 3) ≡ 3) × (length (pathOf 5 fragments 4) ≡ 1)
   -- a vote record has 39 bytes
-  pub vote-bytes : (root out : List ℕ) → length root ≡ 32 → outBytes ≤ length out → writeOf 3 root [] [] out .answer ≡ sized 0 39
+  pub vote-bytes : (root out : List ℕ) → length root ≡ 32 → outBytes ≤ length out → writeOf 3 root [] [] out .answer ≡ answered 0 0 39
   -- k 2, L 16, block 00 00 00 03 41 00: refused 12
   pub unreadable : (b : Table) → limits b ≡ true → kOf b ≡ 2 → b .longest ≡ 16 → (room : List ℕ) → 16 ≤ length room
       → readOf b (0 ∷ 0 ∷ 0 ∷ 3 ∷ 0x41 ∷ 0 ∷ []) room ≡ readOut (sized 12 0) room
@@ -114,7 +114,7 @@ read-by b h k l given room long = rw (h, l, le-ltb (length room) 16 long, k)
 
 pub by-hand : ByHand
 unfolding mul times double add fragmentOf fragmentByte row value block header rows tab sMax encodeOf encodeBy encodeRefusal rebuildRefusal readOf readBy readRefusal startOf
-    sendOf sendBy sendRefusal pick limits pathOf path treeOf tree half doubled writeOf writeBy writeRefusal partsOk isKind nodesMost fragmentOk readable blockMessage fourAt part
+    sendOf sendBy sendRefusal pick limits pathOf path treeOf tree half doubled writeOf writeBy formOf isKind pathOk nodesMost fragmentOk readable blockMessage fourAt part
 by-hand = record {
   products = (refl, refl, refl, refl);
   fragments41 = encodes (0x41 ∷ []) 3 (λ i. 0 ∷ i ∷ 0x41 ∷ []) refl (four-cases (λ (i : ℕ). fragmentOf 2 (block 2 (0x41 ∷ [])) (suc i) ≡ 0 ∷ suc i ∷ 0x41 ∷ []) refl refl refl refl);
@@ -123,7 +123,7 @@ by-hand = record {
   quorums = λ sender longest. (refl, refl, refl, refl, refl, refl, refl, refl, refl);
   refused = λ sender longest own to marked m s u v. (refl, λ r u' w. w .refused 0 refl, refl, refl, refl);
   path-lengths = λ fragments. (refl, refl, refl, refl, refl);
-  vote-bytes = λ root out e l. rw (le-ltb _ _ l, e) (ap (sized 0) (vote-length root e));
+  vote-bytes = λ root out e l. rw (le-ltb _ _ l, e) (ap (answered 0 0) (vote-length root e));
   unreadable = λ b h k l room long. read-by b h k l (0 ∷ 0 ∷ 0 ∷ 3 ∷ 0x41 ∷ 0 ∷ []) room long;
   reads = λ b h k l room long. read-by b h k l (0 ∷ 0 ∷ 0 ∷ 1 ∷ 0x41 ∷ 7 ∷ []) room long;
 }

@@ -5,9 +5,10 @@ use board_step::Stepped;
 use code_calls::Digest;
 use octets::Sized;
 use record::Read;
+use record::Written;
 use table::Table;
 ghost use mathlib.Core.Path.{_≡_};
-ghost use Rattle.record.specs.Form.{parse};
+ghost use Rattle.record.specs.Form.{parse, answered};
 ghost use Rattle.tree.specs.Check.{pathCorrect};
 ghost use Rattle.code_calls.specs.Hashing.{hashOf};
 ghost use Rattle.code_calls.specs.Encoding.{encoded, encodeOf};
@@ -18,12 +19,13 @@ ghost use Rattle.board_send.specs.Sent.{sendOut, sendOf};
 ghost use Rattle.board_step.specs.Step.{outcome, stepOf};
 ghost use Rattle.board_mailbox.specs.Emptied.{emptied, mailboxOf};
 ghost use Rattle.tumbeliko.specs.Tables.{tableFrom};
-ghost use Rattle.tumbeliko.specs.Records.{partsOf, writeRefusal, written, writeOf};
+ghost use Rattle.tumbeliko.specs.Records.{partsOf, wrote, writeOf};
 
-// The parts of a record: the refusal's number, or 0; the kind, the path's nodes and the fragment's bytes.
+// The parts of a record: the refusal's number, or 0, and the place of the field at fault; the kind, the path's nodes and the fragment's bytes.
 #[repr(C)]
 pub struct Parts {
     pub number: u32,
+    pub offset: u32,
     pub kind: u32,
     pub nodes: u32,
     pub fragment_length: u32,
@@ -38,6 +40,17 @@ fn table(n: u32, t: u32, sender: u32, longest: u32) -> Table
         t: t as usize,
         sender: sender as usize,
         longest: longest as usize,
+    }
+}
+
+// The answer of a call that writes a record.
+fn answered(number: u32, offset: u32, length: u32) -> Written
+    ensures { λ r. ⌜ r ≡ answered number offset length ⌝ }
+{
+    Written {
+        number: number,
+        offset: offset,
+        length: length,
     }
 }
 
@@ -113,7 +126,7 @@ pub extern "C" fn tumbeliko_read_block(
     code_calls::read_block(table(n, t, sender, longest), block, message)
 }
 
-// The parts of a record; 5.
+// The parts of a record; 20 to 25.
 #[no_mangle]
 pub extern "C" fn tumbeliko_read_record(record: &[u8]) -> Parts
     ensures { λ r. ⌜ r ≡ partsOf (parse (now («record» .entry))) ⌝ }
@@ -121,12 +134,14 @@ pub extern "C" fn tumbeliko_read_record(record: &[u8]) -> Parts
     match record::read_record(record) {
         Read::Form { kind, nodes, len } => Parts {
             number: 0,
+            offset: 0,
             kind: kind as u32,
             nodes: nodes as u32,
             fragment_length: len as u32,
         },
-        Read::Fault { why: _, at: _ } => Parts {
-            number: 5,
+        Read::Fault { why, at } => Parts {
+            number: why,
+            offset: at,
             kind: 0,
             nodes: 0,
             fragment_length: 0,
@@ -134,20 +149,7 @@ pub extern "C" fn tumbeliko_read_record(record: &[u8]) -> Parts
     }
 }
 
-// Why writing a record is refused, or 0.
-fn write_refusal(kind: u32, root: &[u8], path: &[u8], fragment: &[u8], out: &[u8]) -> u32
-    ensures { λ r. ⌜ r ≡ writeRefusal kind (now (root .entry)) (now (path .entry)) (now (fragment .entry)) (now (out .entry)) ⌝ }
-{
-    if out.len() < record::OUT_BYTES {
-        return 2;
-    }
-    if !record::parts_ok(kind, root.len(), path.len(), fragment.len()) {
-        return 5;
-    }
-    0
-}
-
-// A record of these parts; 2, 5.
+// A record of these parts; 2, 21 to 24.
 #[no_mangle]
 pub extern "C" fn tumbeliko_write_record(
     kind: u32,
@@ -155,21 +157,18 @@ pub extern "C" fn tumbeliko_write_record(
     path: &[u8],
     fragment: &[u8],
     out: &mut [u8],
-) -> Sized
-    ensures { λ r. ⌜ written r (now (out .exit)) ≡ writeOf kind (now (root .entry)) (now (path .entry)) (now (fragment .entry)) (now (out .entry)) ⌝ }
+) -> Written
+    ensures { λ r. ⌜ wrote r (now (out .exit)) ≡ writeOf kind (now (root .entry)) (now (path .entry)) (now (fragment .entry)) (now (out .entry)) ⌝ }
 {
-    let q = write_refusal(kind, root, path, fragment, out);
-    if q != 0 {
-        return Sized {
-            number: q,
-            length: 0,
-        };
+    if out.len() < record::OUT_BYTES {
+        return answered(2, 0, 0);
     }
-    let nodes = path.len() / 32;
-    record::write_parts(out, kind as u8, root, nodes, path, fragment);
-    Sized {
-        number: 0,
-        length: (39 + path.len() + fragment.len()) as u32,
+    match record::form_of(kind, root.len(), path.len(), fragment.len()) {
+        Read::Fault { why, at } => answered(why, at, 0),
+        Read::Form { kind, nodes, len } => {
+            record::write_parts(out, kind, root, nodes, path, fragment);
+            answered(0, 0, (39 + 32 * nodes + len) as u32)
+        }
     }
 }
 
@@ -188,7 +187,7 @@ pub extern "C" fn tumbeliko_start(
     board::start(n, t, sender, longest, own, state)
 }
 
-// One record through a board's step; 2 at once for a state under 4,608 bytes, then 3, 2, 4, 5, 6, 7, 8, 9.
+// One record through a board's step; 2 at once for a state under 4,608 bytes, then 3, 2, 4, 20 to 25, 6, 7, 8, 9.
 #[no_mangle]
 pub extern "C" fn tumbeliko_step(
     state: &mut [u8],

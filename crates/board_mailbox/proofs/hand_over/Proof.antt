@@ -33,9 +33,9 @@ returns c =
     let record-refusal = c .before .before .before .before .before .record-refusal in
     let a = c .before .before .before .before .before .before .before .before .before .before .before .before .before .args in
     let p = c .before .before .before .before .before .before .before .before .before .before .before .before .before .pre in
+    let (at, e) = refused-by (a .state .now) (a .from) (a .r .now) (a .echo .now) (a .delivery .now) (p .0 .ready) (record-refusal .result) (record-refusal .ensures) (c .if1 .taken) in
     rw (c .before .before .before .note .ensures) (handed-refused (a .i) (a .m) (a .state .now) (a .answers .now) (a .echo .now) (a .vote .now) (a .delivery .now) (a .from) (a .r .now)
-    (record-refusal .result) (refused-by (a .state .now) (a .from) (a .r .now) (a .echo .now) (a .delivery .now) (p .0 .ready) (record-refusal .result) (record-refusal .ensures)
-    (c .if1 .taken)))
+    (record-refusal .result) at e)
 
 two-at-requires : tie.Need-two-at-requires
 two-at-requires c κs =

@@ -19,8 +19,8 @@ returns c = rw (← c .before .before .read-table .ensures, ← c .before .is-bo
 read-record-requires : tie.Need-read-record-requires
 read-record-requires c κs = search needs
 
-enum-told : tie.Need-enum-told
-enum-told c = search needs
+enum-known-why : tie.Need-enum-known-why
+enum-known-why c = search needs
 
 enum-known-kind : tie.Need-enum-known-kind
 enum-known-kind c = search needs
@@ -29,23 +29,15 @@ read-marks-requires : tie.Need-read-marks-requires
 read-marks-requires c κs = search needs
 
 by-marks-requires : tie.Need-by-marks-requires
-by-marks-requires c κs =
-    let read-table = c .before .before .before .before .before .before .before .read-table in let is-board = c .before .before .before .before .before .before .is-board in
-    let p = c .before .before .before .before .before .before .before .before .before .before .pre in let if1 = c .before .before .before .before .before .if1 in
-    (rw (read-table .ensures) (p .1), sym (is-board .ensures) ∙ not-false (is-board .result) (if1 .left))
+by-marks-requires c κs = (rw (c .before .before .before .before .before .before .before .read-table .ensures) (c .before .before .before .before .before .before .before .before .before .before .pre .1), sym (c .before .before .before .before .before .before .is-board .ensures) ∙ not-false (c .before .before .before .before .before .before .is-board .result) (c .before .before .before .before .before .if1 .left))
 
 returns-2 : tie.Need-returns-2
 unfolding pick byForm
-returns-2 c =
-    let read-table = c .before .before .before .before .before .read-table in let is-board = c .before .before .before .before .is-board in
-    rw (← read-table .ensures, ← is-board .ensures, c .before .before .before .if1 .left, ← c .before .before .read-record .ensures, c .enum-told .given .1)
+returns-2 c = rw (← c .before .before .before .before .before .before .read-table .ensures, ← c .before .before .before .before .before .is-board .ensures, c .before .before .before .before .if1 .left, ← c .before .before .before .read-record .ensures, c .before .why .given .1)
 
 returns-3 : tie.Need-returns-3
 unfolding pick byForm
-returns-3 c =
-    let read-record = c .before .before .before .before .before .read-record in let read-table = c .before .before .before .before .before .before .before .before .read-table in
-    let is-board = c .before .before .before .before .before .before .before .is-board in let if1 = c .before .before .before .before .before .before .if1 in
-    rw (← read-table .ensures, ← is-board .ensures, if1 .left, ← c .before .read-marks .ensures, ← read-record .ensures, c .before .before .before .kind .given .1) (c .by-marks .ensures)
+returns-3 c = rw (← c .before .before .before .before .before .before .before .before .read-table .ensures, ← c .before .before .before .before .before .before .before .is-board .ensures, c .before .before .before .before .before .before .if1 .left, ← c .before .read-marks .ensures, ← c .before .before .before .before .before .read-record .ensures, c .before .before .before .kind .given .1) (c .by-marks .ensures)
 
 pub plan-record-spec : {M : Type 1} → statement M
 plan-record-spec =
@@ -55,7 +47,7 @@ plan-record-spec =
     is-board-requires
     returns
     read-record-requires
-    enum-told
+    enum-known-why
     enum-known-kind
     read-marks-requires
     by-marks-requires

@@ -7,6 +7,9 @@ use Rattle.record.proofs.read_fragment.Tie as tie
 add-if1 : tie.Need-add-if1
 add-if1 c = search needs
 
+cast-t9 : tie.Need-cast-t9
+cast-t9 c = search needs
+
 returns : tie.Need-returns
 unfolding parseFragment
 returns c = search picks
@@ -16,6 +19,9 @@ two-at-requires c κs = search needs
 
 fragment-ok-requires : tie.Need-fragment-ok-requires
 fragment-ok-requires c κs = search needs
+
+cast-t12 : tie.Need-cast-t12
+cast-t12 c = search needs
 
 returns-2 : tie.Need-returns-2
 unfolding parseFragment
@@ -27,8 +33,11 @@ add-if3 c = search needs
 add-if3-2 : tie.Need-add-if3-2
 add-if3-2 c = search needs
 
-add-t12 : tie.Need-add-t12
-add-t12 c = search needs
+add-t14 : tie.Need-add-t14
+add-t14 c = search needs
+
+cast-t15 : tie.Need-cast-t15
+cast-t15 c = search needs
 
 returns-3 : tie.Need-returns-3
 unfolding parseFragment
@@ -40,11 +49,14 @@ add-if4 c = search needs
 add-if4-2 : tie.Need-add-if4-2
 add-if4-2 c = search needs
 
-add-t13 : tie.Need-add-t13
-add-t13 c = search needs
+add-t16 : tie.Need-add-t16
+add-t16 c = search needs
 
-add-t14 : tie.Need-add-t14
-add-t14 c = search needs
+add-t17 : tie.Need-add-t17
+add-t17 c = search needs
+
+cast-t18 : tie.Need-cast-t18
+cast-t18 c = search needs
 
 returns-4 : tie.Need-returns-4
 unfolding parseFragment
@@ -56,5 +68,24 @@ returns-5 c = rw (← c .before .before .before .before .two-at .ensures .0, ←
 
 pub read-fragment-spec : {M : Type 1} → statement M
 read-fragment-spec =
-    tie.close (tie.spec add-if1 returns two-at-requires fragment-ok-requires returns-2 add-if3 add-if3-2 add-t12 returns-3 add-if4 add-if4-2 add-t13
-    add-t14 returns-4 returns-5)
+    tie.close
+    (tie.spec
+    add-if1
+    cast-t9
+    returns
+    two-at-requires
+    fragment-ok-requires
+    cast-t12
+    returns-2
+    add-if3
+    add-if3-2
+    add-t14
+    cast-t15
+    returns-3
+    add-if4
+    add-if4-2
+    add-t16
+    add-t17
+    cast-t18
+    returns-4
+    returns-5)

@@ -13,17 +13,17 @@ read-record-requires c κs = search needs
 enum-known-kind : tie.Need-enum-known-kind
 enum-known-kind c = search needs
 
-cast-t7 : tie.Need-cast-t7
-cast-t7 c = search needs
-
-cast-t8 : tie.Need-cast-t8
-cast-t8 c = omega (arith, whole _ _ _ _ (sym (c .before .before .before .read-record .ensures) ∙ c .before .kind .given .1) .nodes)
-
 cast-t9 : tie.Need-cast-t9
-cast-t9 c = omega (arith, fragment-most _ _ (whole _ _ _ _ (sym (c .before .before .before .read-record .ensures) ∙ c .before .kind .given .1) .fragment-ok))
+cast-t9 c = search needs
 
-enum-told : tie.Need-enum-told
-enum-told c = search needs
+cast-t10 : tie.Need-cast-t10
+cast-t10 c = omega (arith, whole _ _ _ _ (sym (c .before .before .before .read-record .ensures) ∙ c .before .kind .given .1) .nodes)
+
+cast-t11 : tie.Need-cast-t11
+cast-t11 c = omega (arith, fragment-most _ _ (whole _ _ _ _ (sym (c .before .before .before .read-record .ensures) ∙ c .before .kind .given .1) .fragment-ok))
+
+enum-known-why : tie.Need-enum-known-why
+enum-known-why c = search needs
 
 returns : tie.Need-returns
 unfolding partsOf
@@ -31,8 +31,17 @@ returns c = rw (← c .before .before .before .read-record .ensures, c .before .
 
 returns-2 : tie.Need-returns-2
 unfolding partsOf
-returns-2 c = rw (← c .before .before .read-record .ensures, c .enum-told .given .1)
+returns-2 c = rw (← c .before .before .before .read-record .ensures, c .before .why .given .1)
 
 pub tumbeliko-read-record-spec : {M : Type 1} → statement M
 tumbeliko-read-record-spec =
-    tie.close (tie.spec read-record-requires enum-known-kind cast-t7 cast-t8 cast-t9 enum-told returns returns-2)
+    tie.close
+    (tie.spec
+    read-record-requires
+    enum-known-kind
+    cast-t9
+    cast-t10
+    cast-t11
+    enum-known-why
+    returns
+    returns-2)
