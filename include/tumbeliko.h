@@ -34,7 +34,8 @@
  * work, else the number of the refusal. The faults are looked for in the
  * order given beside the call, and the first one found is answered. With a
  * refusal
- * - every other field of the result is 0, and
+ * - every other field of the result is 0, but for the offset beside the
+ *   numbers 20 to 25 (see "Faults of a record"), and
  * - nothing is written: all lent buffers are as they were before the call.
  */
 
@@ -134,7 +135,6 @@ extern "C" {
 #define TUMBELIKO_SHORT_BUFFER    2   /* a lent buffer shorter than needed */
 #define TUMBELIKO_NOT_SOUND       3   /* state not sound */
 #define TUMBELIKO_NO_SUCH_BOARD   4   /* board number (from, to, or marked) not in 1..n */
-#define TUMBELIKO_BAD_RECORD      5   /* record not of the form of a record */
 #define TUMBELIKO_NOT_THE_SENDER  6   /* send from a board other than the sender */
 #define TUMBELIKO_BAD_FRAGMENT    7   /* fragment longer than s_max
                                          (rebuilding: a marked one, or a marked length 0) */
@@ -148,9 +148,19 @@ extern "C" {
 #define TUMBELIKO_LONG_HASH       15  /* more than 65,536 bytes to hash */
 #define TUMBELIKO_BAD_MAILBOX     16  /* mailbox not of the form of a mailbox, or
                                          fewer answer bytes than items */
+/* Record not of the form of a record; an offset says where. */
+#define TUMBELIKO_CUT_OFF             20  /* the bytes end inside or before a field */
+#define TUMBELIKO_BAD_KIND            21  /* kind other than 1, 2 and 3 */
+#define TUMBELIKO_BAD_ROOT_COUNT      22  /* root count other than 32 */
+#define TUMBELIKO_BAD_PATH_COUNT      23  /* path count above 6, or a vote's above 0 */
+#define TUMBELIKO_BAD_FRAGMENT_COUNT  24  /* fragment count 0 or above 16,388, or a vote's above 0 */
+#define TUMBELIKO_LEFT_OVER           25  /* bytes after the last field */
+
+/* Every number above is below this. */
+#define TUMBELIKO_NUMBERS         26
 
 /* ====================================================================
- * Kinds of record, deliveries, places in a record
+ * Kinds of record, deliveries
  */
 
 /* Kinds of record. */
@@ -163,10 +173,49 @@ extern "C" {
 #define TUMBELIKO_DELIVERY_MESSAGE  1
 #define TUMBELIKO_DELIVERY_VOID     2
 
-/* Where the sections of a record stand. */
-#define TUMBELIKO_RECORD_ROOT               3
-#define TUMBELIKO_RECORD_PATH               37
-#define TUMBELIKO_RECORD_FRAGMENT(nodes)    (39 + 32 * (size_t)(nodes))
+/* ====================================================================
+ * A record
+ *
+ * A kind byte, then three sections, root, path and fragment, each after
+ * its two-byte count (high byte first). Nothing follows.
+ *
+ *   offset       bytes   field            send, echo    vote   else
+ *   0            1       kind             1, 2          3      21
+ *   1            2       root count       32            32     22
+ *   3            32      root
+ *   35           2       path count       0 to 6        0      23
+ *   37           p       path
+ *   37 + p       2       fragment count   1 to 16,388   0      24
+ *   39 + p       f       fragment
+ *   39 + p + f   0       the end                               25
+ *
+ * The path count counts nodes of 32 bytes, and p is 32 times that count; f
+ * is the fragment count. A vote has 39 bytes, the longest record 16,619.
+ *
+ * Faults of a record. The fields are read left to right, and the first
+ * fault counts. A result with a field `offset` names in it the first byte
+ * of the field at fault, counted from 0:
+ *
+ *   20   the field that the bytes end inside or before. A count is a field
+ *        of two bytes: one byte of it and no more is 20 at the count. A
+ *        section's bytes are a field of their own, after its count
+ *   21   the kind, so 0, whatever follows
+ *   22   the root count
+ *   23   the path count
+ *   24   the fragment count
+ *   25   the first byte left over
+ *
+ * A count is judged as soon as it is read, before its section: a record of
+ * 37 bytes whose path count is 7 is 23 at 35. A good record that lost its
+ * end on the way is always 20. Beside every other number the offset is 0.
+ */
+#define TUMBELIKO_RECORD_KIND                       0
+#define TUMBELIKO_RECORD_ROOT_COUNT                 1
+#define TUMBELIKO_RECORD_ROOT                       3
+#define TUMBELIKO_RECORD_PATH_COUNT                 35
+#define TUMBELIKO_RECORD_PATH                       37
+#define TUMBELIKO_RECORD_FRAGMENT_COUNT(nodes)      (37 + 32 * (size_t)(nodes))
+#define TUMBELIKO_RECORD_FRAGMENT(nodes)            (39 + 32 * (size_t)(nodes))
 
 /* ====================================================================
  * Results, returned by value
@@ -183,16 +232,23 @@ typedef struct {
     uint8_t bytes[32];
 } tumbeliko_digest;
 
-/* A refusal number, or 0 and what a record is: its kind, the number of
- * nodes of its path and the length of its fragment. */
+/* A refusal number and its offset, or 0 and what a record is: its kind, the
+ * number of nodes of its path and the length of its fragment. */
 typedef struct {
-    uint32_t number, kind, nodes, fragment_length;
+    uint32_t number, offset, kind, nodes, fragment_length;
 } tumbeliko_parts;
 
-/* A refusal number, or 0 and what a step leaves: the length of the record
- * put out (0 for none), the delivery and the length of the message. */
+/* A refusal number and its offset, or 0 and the length of the record
+ * written. */
 typedef struct {
-    uint32_t number, record_length, delivery, message_length;
+    uint32_t number, offset, length;
+} tumbeliko_written;
+
+/* A refusal number and its offset, or 0 and what a step leaves: the length
+ * of the record put out (0 for none), the delivery and the length of the
+ * message. */
+typedef struct {
+    uint32_t number, offset, record_length, delivery, message_length;
 } tumbeliko_stepped;
 
 /* A refusal number, or 0 and what a whole mailbox leaves: the lengths of
@@ -332,19 +388,21 @@ tumbeliko_sized tumbeliko_read_block(uint32_t n, uint32_t t, uint32_t sender, ui
 /* ====================================================================
  * Read record
  *
- * Is this a record, and where are its parts? A record is a kind byte, then
- * three sections, each after its two-byte count (high byte first): root
- * (count 32, then 32 bytes), path (count of nodes, then 32 bytes for each)
- * and fragment (count of bytes, then the bytes). Nothing follows.
- *
- *   kind 1, send, and 2, echo: 0 to 6 nodes, fragment of 1 to 16,388 bytes
- *   kind 3, vote: no node, no fragment; 39 bytes in all
+ * Is this a record, and where are its parts? If it is none, what is wrong,
+ * and where? See "A record" above.
  *
  *   record    record_len bytes; read
  *
- * Refusals: 5 (anything else).
- * Result: number 0, kind, nodes and fragment_length. The root is at byte 3
- * of the record, the path at 37, the fragment at 39 + 32 * nodes.
+ * Refusals, with the offset of the field at fault; the fields left to
+ * right, so that of several faults the first in the record counts:
+ *   20   cut off
+ *   21   kind not 1, 2 or 3
+ *   22   root count not 32
+ *   23   path count above 6; for a vote: above 0
+ *   24   fragment count 0 or above 16,388; for a vote: above 0
+ *   25   bytes left over
+ * Result: number 0, offset 0, kind, nodes and fragment_length. The root is
+ * at byte 3 of the record, the path at 37, the fragment at 39 + 32 * nodes.
  */
 tumbeliko_parts tumbeliko_read_record(const uint8_t *record, size_t record_len);
 
@@ -356,21 +414,25 @@ tumbeliko_parts tumbeliko_read_record(const uint8_t *record, size_t record_len);
  *   root, path, fragment    read
  *   out                     TUMBELIKO_OUT_BYTES; written
  *
- * Refusals, in this order:
+ * Refusals, in this order; 21 to 24 with the offset that the field would
+ * have in the record:
  *   2    out shorter than above
- *   5    kind not 1, 2 or 3; root_len not 32; for a send or an echo:
- *        path_len no multiple of 32 or above 192, fragment_len 0 or above
- *        16,388; for a vote: path or fragment not empty
- * Result: number 0 and the length of the record.
+ *   21   kind not 1, 2 or 3 (256 and above too); offset 0
+ *   22   root_len not 32; offset 1
+ *   23   path_len no multiple of 32, or above 192; for a vote: above 0;
+ *        offset 35
+ *   24   fragment_len 0 or above 16,388; for a vote: above 0; offset 37 +
+ *        path_len
+ * Result: number 0, offset 0 and the length of the record.
  *
  * Afterwards the first `length` bytes of out are the record; bytes beyond
  * these stay.
  */
-tumbeliko_sized tumbeliko_write_record(uint32_t kind,
-                                       const uint8_t *root, size_t root_len,
-                                       const uint8_t *path, size_t path_len,
-                                       const uint8_t *fragment, size_t fragment_len,
-                                       uint8_t *out, size_t out_len);
+tumbeliko_written tumbeliko_write_record(uint32_t kind,
+                                         const uint8_t *root, size_t root_len,
+                                         const uint8_t *path, size_t path_len,
+                                         const uint8_t *fragment, size_t fragment_len,
+                                         uint8_t *out, size_t out_len);
 
 /* ====================================================================
  * Start
@@ -412,14 +474,15 @@ uint32_t tumbeliko_start(uint32_t n, uint32_t t, uint32_t sender, uint32_t longe
  *   3    state not sound (never after a start, steps and mailboxes alone)
  *   2    state, out or delivery shorter than above
  *   4    from not in 1..n
- *   5    record not of the form (see tumbeliko_read_record)
+ *   20 to 25, record not of the form: the number and the offset that
+ *        tumbeliko_read_record answers
  *   6    a send, and from is not the sender
  *   7    a send or an echo whose fragment is longer than s_max
  *   8    board done; or a send in the output stage
  *   9    second send; second echo or second vote from that board
  * A refused record is not used up: the state is as it was.
  *
- * Result: number 0, and
+ * Result: number 0, offset 0, and
  *   record_length    length of the record put out, 0 for none; at most one
  *                    in a step, meant for all n boards, this one too
  *   delivery         0 none, 1 message, 2 void (the sender broke the
@@ -478,8 +541,10 @@ tumbeliko_stepped tumbeliko_step(uint8_t *state, size_t state_len, uint32_t from
  * An item that is refused is no refusal of the call. Its number is its
  * answer, the others go on, and the call's number is 0 even if each item
  * was refused. An item's answer is the number that tumbeliko_step would
- * answer in its turn, 0 or 4 to 9: 4 for a board byte that is 0 or above
- * n, 5 for bytes that are no record (as the second item above), and so on.
+ * answer in its turn, 0, 4, 20 to 25 or 6 to 9: 4 for a board byte that is
+ * 0 or above n, 20 for a record that is cut off (as the second item above,
+ * of no bytes), and so on. It is a bare number: tumbeliko_read_record says
+ * at which offset a record is at fault.
  *
  * Result: number 0, and
  *   echo_length      length of the echo put out, 0 for none

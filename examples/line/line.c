@@ -89,7 +89,7 @@ void note_answer(letter *which, uint32_t number)
     which->fate = number == TUMBELIKO_OK ? TAKEN : REFUSED;
     which->due = now;
     seen.handed++;
-    seen.answers[number & 15]++;
+    seen.answers[number % TUMBELIKO_NUMBERS]++;
     receiver->steps++;
     if (number == TUMBELIKO_OK) {
         receiver->heard[which->bytes[0] & 3]++;

@@ -72,7 +72,8 @@ typedef struct {
 } letter;
 
 typedef struct {
-    unsigned handed, calls, lost, repeated, answers[16];        /* records handed over, and by how many calls */
+    unsigned handed, calls, lost, repeated;     /* records handed over, and by how many calls */
+    unsigned answers[TUMBELIKO_NUMBERS];        /* how often each number was their answer */
     unsigned long records, bytes;               /* put out by boards that keep the rules, one for each receiver */
     unsigned long other_records, other_bytes;   /* by the others */
 } figures;

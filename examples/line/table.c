@@ -44,15 +44,19 @@ static void show_board(uint32_t own)
 
 static void show_figures(void)
 {
-    static const char *const meanings[16] = {
-        [5] = "malformed", [6] = "sends not from the sender", [7] = "too long", [8] = "after the end", [9] = "second ones"
+    static const char *const meanings[TUMBELIKO_NUMBERS] = {
+        [TUMBELIKO_NOT_THE_SENDER] = "sends not from the sender", [TUMBELIKO_BAD_FRAGMENT] = "too long",
+        [TUMBELIKO_LATE] = "after the end", [TUMBELIKO_SECOND] = "second ones", [TUMBELIKO_CUT_OFF] = "cut off",
+        [TUMBELIKO_BAD_KIND] = "of no kind", [TUMBELIKO_BAD_ROOT_COUNT] = "with a wrong root count",
+        [TUMBELIKO_BAD_PATH_COUNT] = "with a wrong path count",
+        [TUMBELIKO_BAD_FRAGMENT_COUNT] = "with a wrong fragment count", [TUMBELIKO_LEFT_OVER] = "with bytes left over"
     };
     uint32_t h = 0;
 
     for (uint32_t own = 1; own <= play.n; own++)
         h += keeps(own);
     printf("  handed over    %u records: %u accepted", seen.handed, seen.answers[0]);
-    for (int number = 1; number < 16; number++)
+    for (int number = 1; number < TUMBELIKO_NUMBERS; number++)
         if (seen.answers[number] > 0)
             printf(", %u %s", seen.answers[number], meanings[number] != NULL ? meanings[number] : "refused");
     if (play.poll > 0)
