@@ -8,48 +8,98 @@ enum { NONE = 0, MESSAGE = 1, VOID = 2 };
 
 /* ---- records */
 
-static bool form(uint32_t kind, size_t nodes, size_t fragment_len)
+/* What is wrong with a record: document 02, request 2. */
+enum { CUT_OFF = 20, NO_KIND = 21, ROOT_COUNT = 22, PATH_COUNT = 23, FRAGMENT_COUNT = 24, LEFT_OVER = 25 };
+
+static bool is_kind(uint32_t kind)
 {
-    if (kind == VOTE)
-        return nodes == 0 && fragment_len == 0;
-    return (kind == SEND || kind == ECHO) && nodes <= 6 && fragment_len >= 1 && fragment_len <= REF_FRAGMENT;
+    return kind == SEND || kind == ECHO || kind == VOTE;
 }
 
-/* Takes a two-byte count and its bytes from the front of what is left. */
-static bool section(const uint8_t **at, size_t *left, size_t unit, size_t *count)
+/* May a record of this kind have a path of so many nodes, or a fragment of
+ * so many bytes? */
+static bool path_fits(uint32_t kind, size_t nodes)
 {
-    if (*left < 2)
+    return kind == VOTE ? nodes == 0 : nodes <= 6;
+}
+
+static bool fragment_fits(uint32_t kind, size_t fragment_len)
+{
+    return kind == VOTE ? fragment_len == 0 : fragment_len >= 1 && fragment_len <= REF_FRAGMENT;
+}
+
+/* A record that is read from its front: where its last field began, and
+ * what comes after that field. */
+typedef struct {
+    const uint8_t *start, *field, *next;
+    size_t left;
+} reading;
+
+/* Takes the next field, of so many bytes. Says no if it is not all there. */
+static bool take(reading *in, size_t bytes)
+{
+    in->field = in->next;
+    if (in->left < bytes)
         return false;
-    *count = (size_t)(*at)[0] << 8 | (*at)[1];
-    *at += 2;
-    *left -= 2;
-    if (*left < *count * unit)
-        return false;
-    *at += *count * unit;
-    *left -= *count * unit;
+    in->next += bytes;
+    in->left -= bytes;
     return true;
+}
+
+/* Takes a field that is a number, of one byte or of two. */
+static bool take_number(reading *in, size_t bytes, uint32_t *number)
+{
+    if (!take(in, bytes))
+        return false;
+    *number = 0;
+    for (size_t i = 0; i < bytes; i++)
+        *number = *number * 256 + in->field[i];
+    return true;
+}
+
+/* Is nothing left? What is left counts as a field. */
+static bool at_the_end(reading *in)
+{
+    in->field = in->next;
+    return in->left == 0;
+}
+
+/* Field by field: the first fault, or 0 and what the record has. */
+static uint32_t read_fields(reading *in, ref_parts *parts)
+{
+    uint32_t root;
+
+    if (!take_number(in, 1, &parts->kind))
+        return CUT_OFF;
+    if (!is_kind(parts->kind))
+        return NO_KIND;
+    if (!take_number(in, 2, &root))
+        return CUT_OFF;
+    if (root != 32)
+        return ROOT_COUNT;
+    if (!take(in, root) || !take_number(in, 2, &parts->nodes))
+        return CUT_OFF;
+    if (!path_fits(parts->kind, parts->nodes))
+        return PATH_COUNT;
+    if (!take(in, 32 * (size_t)parts->nodes) || !take_number(in, 2, &parts->fragment_length))
+        return CUT_OFF;
+    if (!fragment_fits(parts->kind, parts->fragment_length))
+        return FRAGMENT_COUNT;
+    if (!take(in, parts->fragment_length))
+        return CUT_OFF;
+    return at_the_end(in) ? 0 : LEFT_OVER;
 }
 
 ref_parts ref_read_record(const uint8_t *record, size_t record_len)
 {
-    ref_parts refused = { 5, 0, 0, 0 }, answer = { 0, 0, 0, 0 };
-    const uint8_t *at;
-    size_t left, root, nodes, bytes;
+    ref_parts refused = { 0, 0, 0, 0, 0 }, parts = refused;
+    reading in = { record, record, record, record_len };
 
-    if (record_len < 1)
-        return refused;
-    at = record + 1;
-    left = record_len - 1;
-    if (!section(&at, &left, 1, &root) || root != 32)
-        return refused;
-    if (!section(&at, &left, 32, &nodes) || !section(&at, &left, 1, &bytes) || left != 0)
-        return refused;
-    if (!form(record[0], nodes, bytes))
-        return refused;
-    answer.kind = record[0];
-    answer.nodes = (uint32_t)nodes;
-    answer.fragment_length = (uint32_t)bytes;
-    return answer;
+    refused.number = read_fields(&in, &parts);
+    if (refused.number == 0)
+        return parts;
+    refused.offset = (uint32_t)(in.field - in.start);
+    return refused;
 }
 
 static uint8_t *put_section(uint8_t *to, size_t count, const uint8_t *bytes, size_t len)
@@ -61,20 +111,29 @@ static uint8_t *put_section(uint8_t *to, size_t count, const uint8_t *bytes, siz
     return to + 2 + len;
 }
 
-ref_sized ref_write_record(uint32_t kind, const uint8_t *root, size_t root_len, const uint8_t *path, size_t path_len,
-                           const uint8_t *fragment, size_t fragment_len, uint8_t *out, size_t out_len)
+static ref_written not_written(uint32_t number, size_t offset)
 {
-    ref_sized answer = { 0, 0 };
+    ref_written answer = { number, (uint32_t)offset, 0 };
+
+    return answer;
+}
+
+ref_written ref_write_record(uint32_t kind, const uint8_t *root, size_t root_len, const uint8_t *path, size_t path_len,
+                             const uint8_t *fragment, size_t fragment_len, uint8_t *out, size_t out_len)
+{
+    ref_written answer = { 0, 0, 0 };
     uint8_t *to = out;
 
-    if (out_len < REF_OUT) {
-        answer.number = 2;
-        return answer;
-    }
-    if (root_len != 32 || path_len % 32 != 0 || !form(kind, path_len / 32, fragment_len)) {
-        answer.number = 5;
-        return answer;
-    }
+    if (out_len < REF_OUT)
+        return not_written(2, 0);
+    if (!is_kind(kind))
+        return not_written(NO_KIND, 0);
+    if (root_len != 32)
+        return not_written(ROOT_COUNT, 1);
+    if (path_len % 32 != 0 || !path_fits(kind, path_len / 32))
+        return not_written(PATH_COUNT, 1 + 2 + 32);
+    if (!fragment_fits(kind, fragment_len))
+        return not_written(FRAGMENT_COUNT, 1 + 2 + 32 + 2 + path_len);
     *to++ = (uint8_t)kind;
     to = put_section(to, 32, root, 32);
     to = put_section(to, path_len / 32, path, path_len);
@@ -116,8 +175,9 @@ ref_sized ref_send(uint32_t n, uint32_t t, uint32_t sender, uint32_t longest,
     s_max = ref_s_max(table);
     length = encode_afresh(table, message, message_len);
     ref_tree(fresh_area, s_max, length, n, fresh_root, fresh_paths, nodes);     /* for the counts of nodes */
-    return ref_write_record(SEND, fresh_root, 32, fresh_paths + (to - 1) * 192, 32 * nodes[to - 1],
-                            fresh_area + (to - 1) * s_max, length, out, out_len);
+    answer.length = ref_write_record(SEND, fresh_root, 32, fresh_paths + (to - 1) * 192, 32 * nodes[to - 1],
+                                     fresh_area + (to - 1) * s_max, length, out, out_len).length;
+    return answer;
 }
 
 /* ---- state */
@@ -265,21 +325,20 @@ static uint32_t unfit(const ref_board *b, size_t state_len, size_t out_len, size
     return 0;
 }
 
-/* The refusal that a record gets from a board, or 0. */
-static uint32_t refusal(const ref_board *b, size_t state_len, uint32_t from, const uint8_t *record, size_t record_len,
+/* The refusal that a record gets from a board, or 0. `parts` is what the
+ * reader says of it. */
+static uint32_t refusal(const ref_board *b, size_t state_len, uint32_t from, ref_parts parts,
                         size_t out_len, size_t delivery_len)
 {
     uint32_t lent = unfit(b, state_len, out_len, delivery_len);
-    ref_parts parts;
     uint64_t bit;
 
     if (lent != 0)
         return lent;
     if (from < 1 || from > b->table.n)
         return 4;
-    parts = ref_read_record(record, record_len);
     if (parts.number != 0)
-        return 5;
+        return parts.number;
     if (parts.kind == SEND && from != b->table.sender)
         return 6;
     if (parts.fragment_length > ref_s_max(b->table))
@@ -333,15 +392,16 @@ static uint32_t deliver(const ref_board *b, const uint8_t *root, uint64_t usable
 ref_stepped ref_step(ref_board *b, size_t state_len, uint32_t from, const uint8_t *record, size_t record_len,
                      uint8_t *out, size_t out_len, uint8_t *delivery, size_t delivery_len)
 {
-    ref_stepped answer = { 0, 0, 0, 0 };
-    ref_parts parts;
+    ref_stepped answer = { 0, 0, 0, 0, 0 };
+    ref_parts parts = ref_read_record(record, record_len);
     const uint8_t *root, *path, *fragment, *due;
     uint64_t bit;
 
-    answer.number = refusal(b, state_len, from, record, record_len, out_len, delivery_len);
+    answer.number = refusal(b, state_len, from, parts, out_len, delivery_len);
+    if (ref_form_fault(answer.number))
+        answer.offset = parts.offset;
     if (answer.number != 0)
         return answer;
-    parts = ref_read_record(record, record_len);
     root = record + 3;
     path = record + 37;
     fragment = record + 39 + 32 * parts.nodes;

@@ -132,7 +132,7 @@ static bool step(source *in, unsigned k, ref_table table, const bool *breaks, co
 {
     static uint8_t raw[1024], sent[REF_OUT], out[REF_OUT], delivery[64];
     const uint8_t *record = NULL;
-    ref_stepped answer = { 14, 0, 0, 0 };
+    ref_stepped answer = { 14, 0, 0, 0, 0 };
     size_t length = 0;
     sentence words;
     uint32_t from, to;

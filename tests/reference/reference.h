@@ -1,8 +1,10 @@
 /*
- * A second implementation of the whole of document 01 and of request 1 of
- * document 02, in plain C, to hold the library's answers against. Nothing of it comes from the library: the
- * field multiplies by shift and add, rebuilding solves linear equations by
- * elimination, the tree is cut by recursion, a board is a C struct.
+ * A second implementation of the whole of document 01 and of requests 1 and
+ * 2 of document 02, in plain C, to hold the library's answers against.
+ * Nothing of it comes from the library: the field multiplies by shift and
+ * add, rebuilding solves linear equations by elimination, the tree is cut by
+ * recursion, a record is taken field by field from its front, a board is a C
+ * struct.
  *
  * Each call has the arguments and the meaning of its namesake in
  * include/tumbeliko.h, so that a test can hand the same to both.
@@ -23,10 +25,24 @@
 #define REF_STATE_HEAD  4608
 #define REF_ITEMS       255
 
+/* Every refusal number is below this. */
+#define REF_NUMBERS     26
+
+/* The numbers of a record that is not of the form. Only these come with an
+ * offset; beside every other number it is 0. */
+#define REF_FORM_FIRST  20
+#define REF_FORM_LAST   25
+
+static inline bool ref_form_fault(uint32_t number)
+{
+    return number >= REF_FORM_FIRST && number <= REF_FORM_LAST;
+}
+
 typedef struct { uint32_t number, length; } ref_sized;
 typedef struct { uint32_t number; uint8_t bytes[32]; } ref_digest;
-typedef struct { uint32_t number, kind, nodes, fragment_length; } ref_parts;
-typedef struct { uint32_t number, record_length, delivery, message_length; } ref_stepped;
+typedef struct { uint32_t number, offset, kind, nodes, fragment_length; } ref_parts;
+typedef struct { uint32_t number, offset, length; } ref_written;
+typedef struct { uint32_t number, offset, record_length, delivery, message_length; } ref_stepped;
 typedef struct { uint32_t number, echo_length, vote_length, delivery, message_length; } ref_mailed;
 
 /* The table of boards, and what follows from it. */
@@ -72,8 +88,8 @@ ref_sized ref_read_block(uint32_t n, uint32_t t, uint32_t sender, uint32_t longe
 
 ref_parts ref_read_record(const uint8_t *record, size_t record_len);
 
-ref_sized ref_write_record(uint32_t kind, const uint8_t *root, size_t root_len, const uint8_t *path, size_t path_len,
-                           const uint8_t *fragment, size_t fragment_len, uint8_t *out, size_t out_len);
+ref_written ref_write_record(uint32_t kind, const uint8_t *root, size_t root_len, const uint8_t *path, size_t path_len,
+                             const uint8_t *fragment, size_t fragment_len, uint8_t *out, size_t out_len);
 
 ref_sized ref_send(uint32_t n, uint32_t t, uint32_t sender, uint32_t longest,
                    const uint8_t *message, size_t message_len, uint32_t to, uint8_t *out, size_t out_len);

@@ -1,6 +1,7 @@
 /*
- * The reference itself, tried on the sentences of document 01 and of request
- * 1 of document 02: what the library is held against must be right first.
+ * The reference itself, tried on the sentences of document 01 and of requests
+ * 1 and 2 of document 02: what the library is held against must be right
+ * first.
  */
 
 #include <stdlib.h>
@@ -60,7 +61,80 @@ static void a_vote_record_has_39_bytes(void)
 
 /* ---- records */
 
-static void path_count_6_is_read_and_7_refused_with_5(void)
+static bool refused_at(ref_parts got, uint32_t number, size_t offset)
+{
+    return got.number == number && got.offset == offset && got.kind == 0 && got.nodes == 0 && got.fragment_length == 0;
+}
+
+static bool not_written_at(ref_written got, uint32_t number, size_t offset)
+{
+    return got.number == number && got.offset == offset && got.length == 0;
+}
+
+/* The fields of some records, written down by hand: kind, root count, path
+ * count and fragment count as they stand there, the first in one byte and
+ * the others in two; so many bytes of it; and what the reader says. */
+static void faults_worked_out_by_hand(void)
+{
+    static const struct {
+        uint32_t kind, root, nodes, bytes;
+        size_t len;
+        uint32_t number, offset;
+    } cases[] = {
+        { VOTE, 32, 0, 0, 39, 0, 0 }, { SEND, 32, 0, 1, 40, 0, 0 }, { ECHO, 32, 2, 5, 108, 0, 0 },
+        { ECHO, 32, 6, 16388, 16619, 0, 0 },
+
+        /* cut off: before or inside a count, a root, a path, a fragment */
+        { VOTE, 32, 0, 0, 0, 20, 0 }, { VOTE, 32, 0, 0, 1, 20, 1 }, { VOTE, 32, 0, 0, 2, 20, 1 },
+        { VOTE, 32, 0, 0, 3, 20, 3 }, { VOTE, 32, 0, 0, 34, 20, 3 }, { VOTE, 32, 0, 0, 35, 20, 35 },
+        { VOTE, 32, 0, 0, 36, 20, 35 }, { VOTE, 32, 0, 0, 37, 20, 37 }, { VOTE, 32, 0, 0, 38, 20, 37 },
+        { ECHO, 32, 2, 5, 37, 20, 37 }, { ECHO, 32, 2, 5, 100, 20, 37 }, { ECHO, 32, 2, 5, 101, 20, 101 },
+        { ECHO, 32, 2, 5, 102, 20, 101 }, { ECHO, 32, 2, 5, 103, 20, 103 }, { ECHO, 32, 2, 5, 107, 20, 103 },
+        { SEND, 32, 6, 16388, 16618, 20, 231 },
+
+        /* the kind, whatever follows: one byte alone, and wrong counts */
+        { 0, 32, 0, 0, 1, 21, 0 }, { 4, 32, 0, 0, 39, 21, 0 }, { 255, 31, 7, 0, 39, 21, 0 }, { 4, 32, 2, 5, 37, 21, 0 },
+
+        /* the root count, before its section and after the kind */
+        { VOTE, 31, 0, 0, 39, 22, 1 }, { VOTE, 33, 7, 0, 39, 22, 1 }, { SEND, 0, 0, 1, 3, 22, 1 },
+        { ECHO, 256 + 32, 0, 1, 40, 22, 1 },
+
+        /* the path count, before its section and after the root */
+        { ECHO, 32, 7, 1, 37, 23, 35 }, { ECHO, 32, 7, 1, 36, 20, 35 }, { SEND, 32, 7, 1, 264, 23, 35 },
+        { SEND, 32, 256, 1, 40, 23, 35 }, { VOTE, 32, 1, 0, 71, 23, 35 }, { VOTE, 32, 1, 9, 37, 23, 35 },
+
+        /* the fragment count, before its section and after the path */
+        { ECHO, 32, 0, 0, 39, 24, 37 }, { SEND, 32, 0, 0, 40, 24, 37 }, { ECHO, 32, 3, 0, 135, 24, 133 },
+        { ECHO, 32, 1, 16389, 71, 24, 69 }, { ECHO, 32, 1, 16388, 71, 20, 71 }, { VOTE, 32, 0, 1, 40, 24, 37 },
+        { VOTE, 32, 0, 1, 38, 20, 37 },
+
+        /* bytes left over: the first of them */
+        { VOTE, 32, 0, 0, 40, 25, 39 }, { VOTE, 32, 0, 0, 400, 25, 39 }, { SEND, 32, 0, 1, 41, 25, 40 },
+        { ECHO, 32, 2, 5, 109, 25, 108 }, { ECHO, 32, 6, 16388, 16620, 25, 16619 },
+    };
+
+    for (size_t c = 0; c < sizeof cases / sizeof *cases; c++) {
+        uint32_t counts[] = { cases[c].root, cases[c].nodes, cases[c].bytes };
+        size_t places[] = { 1, 35, 37 + 32 * (size_t)cases[c].nodes };
+
+        random_bytes(record, sizeof record);
+        record[0] = (uint8_t)cases[c].kind;
+        for (int i = 0; i < 3; i++) {
+            record[places[i]] = (uint8_t)(counts[i] >> 8);
+            record[places[i] + 1] = (uint8_t)counts[i];
+        }
+        if (cases[c].number != 0) {
+            CHECK(refused_at(ref_read_record(record, cases[c].len), cases[c].number, cases[c].offset));
+        } else {
+            ref_parts read = ref_read_record(record, cases[c].len);
+
+            CHECK(read.number == 0 && read.offset == 0 && read.kind == cases[c].kind && read.nodes == cases[c].nodes);
+            CHECK(read.fragment_length == cases[c].bytes);
+        }
+    }
+}
+
+static void path_count_6_is_read_and_7_refused_with_23(void)
 {
     memset(record, 0, sizeof record);
     record[0] = SEND;
@@ -70,26 +144,31 @@ static void path_count_6_is_read_and_7_refused_with_5(void)
 
         record[36] = nodes;
         record[at + 1] = 1;
-        CHECK(ref_read_record(record, at + 3).number == (nodes <= 6 ? 0 : 5));
+        if (nodes <= 6)
+            CHECK(ref_read_record(record, at + 3).number == 0);
+        else
+            CHECK(refused_at(ref_read_record(record, at + 3), 23, 35));
         record[at + 1] = 0;
     }
 }
 
-static void kinds_0_and_4_to_255_are_refused_with_5(void)
+static void kinds_0_and_4_to_255_are_refused_with_21(void)
 {
     static const uint8_t parts[192];
 
     for (uint32_t kind = 0; kind <= 600; kind++) {
         bool good = kind >= 1 && kind <= 3;
         size_t len = kind == VOTE ? 0 : 5;
+        ref_written written = ref_write_record(kind, parts, 32, parts, 0, parts, len, out, sizeof out);
 
-        CHECK(ref_write_record(kind, parts, 32, parts, 0, parts, len, out, sizeof out).number == (good ? 0 : 5));
+        CHECK(good ? written.number == 0 : not_written_at(written, 21, 0));
         memset(record, 0, 100);
         record[0] = (uint8_t)kind;
         record[2] = 32;
         record[38] = (uint8_t)len;
-        if (kind < 256)
-            CHECK(ref_read_record(record, 39 + len).number == (good ? 0 : 5));
+        for (size_t cut = 1; kind < 256 && cut <= 39 + len; cut++)
+            CHECK(good ? (ref_read_record(record, cut).number == 0) == (cut == 39 + len)
+                       : refused_at(ref_read_record(record, cut), 21, 0));
     }
 }
 
@@ -98,32 +177,51 @@ static void what_is_written_is_read_and_no_other_length_is(void)
     for (int i = 0; i < 200; i++) {
         uint32_t kind = 1 + random_below(3), nodes = kind == VOTE ? 0 : random_below(7);
         uint32_t len = kind == VOTE ? 0 : 1 + random_below(i < 5 ? 16388 : 60);
-        ref_sized written;
+        ref_written written;
         ref_parts read;
 
         random_bytes(bytes, sizeof bytes);
         written = ref_write_record(kind, bytes, 32, bytes + 100, 32 * nodes, bytes + 400, len, out, sizeof out);
-        CHECK(written.number == 0 && written.length == 39 + 32 * nodes + len);
+        CHECK(written.number == 0 && written.offset == 0 && written.length == 39 + 32 * nodes + len);
         read = ref_read_record(out, written.length);
         CHECK(read.number == 0 && read.kind == kind && read.nodes == nodes && read.fragment_length == len);
         CHECK(memcmp(out + 3, bytes, 32) == 0);
         CHECK(memcmp(out + 37, bytes + 100, 32 * nodes) == 0);
         CHECK(memcmp(out + 39 + 32 * nodes, bytes + 400, len) == 0);
-        for (size_t other = 0; other <= written.length + 3 && other < sizeof out; other++)
-            CHECK((ref_read_record(out, other).number == 0) == (other == written.length));
+        for (size_t other = 0; other < written.length; other++)
+            CHECK(ref_read_record(out, other).number == 20);
+        for (size_t other = written.length + 1; other <= written.length + 3 && other < sizeof out; other++)
+            CHECK(refused_at(ref_read_record(out, other), 25, written.length));
     }
 }
 
-static void fragments_of_16388_bytes_are_written_and_longer_ones_refused_with_5(void)
+/* Each of the writer's faults alone, and with one that comes later. */
+static void the_writer_s_faults_worked_out_by_hand(void)
 {
-    CHECK(ref_write_record(ECHO, bytes, 32, bytes, 192, bytes, 16388, out, REF_OUT).length == REF_OUT);
-    CHECK(ref_write_record(ECHO, bytes, 32, bytes, 192, bytes, 16389, out, REF_OUT).number == 5);
-    CHECK(ref_write_record(ECHO, bytes, 32, bytes, 192, bytes, 0, out, REF_OUT).number == 5);
-    CHECK(ref_write_record(ECHO, bytes, 32, bytes, 224, bytes, 1, out, REF_OUT).number == 5);
-    CHECK(ref_write_record(ECHO, bytes, 31, bytes, 192, bytes, 1, out, REF_OUT).number == 5);
-    CHECK(ref_write_record(VOTE, bytes, 32, bytes, 32, bytes, 0, out, REF_OUT).number == 5);
-    CHECK(ref_write_record(VOTE, bytes, 32, bytes, 0, bytes, 1, out, REF_OUT).number == 5);
-    CHECK(ref_write_record(0, bytes, 31, bytes, 0, bytes, 1, out, REF_OUT - 1).number == 2);
+    static const struct {
+        uint32_t kind;
+        size_t root, path, fragment, out;
+        uint32_t number, offset;
+    } cases[] = {
+        { ECHO, 32, 192, 16388, REF_OUT, 0, 0 }, { VOTE, 32, 0, 0, REF_OUT, 0, 0 },
+        { ECHO, 32, 192, 1, REF_OUT - 1, 2, 0 }, { 0, 31, 0, 1, REF_OUT - 1, 2, 0 }, { VOTE, 32, 33, 1, 0, 2, 0 },
+        { 0, 32, 0, 1, REF_OUT, 21, 0 }, { 4, 31, 33, 0, REF_OUT, 21, 0 }, { 256 + ECHO, 32, 0, 1, REF_OUT, 21, 0 },
+        { ECHO, 31, 192, 1, REF_OUT, 22, 1 }, { VOTE, 33, 32, 1, REF_OUT, 22, 1 }, { SEND, 0, 224, 0, REF_OUT, 22, 1 },
+        { ECHO, 32, 224, 1, REF_OUT, 23, 35 }, { ECHO, 32, 33, 1, REF_OUT, 23, 35 }, { SEND, 32, 31, 0, REF_OUT, 23, 35 },
+        { VOTE, 32, 32, 0, REF_OUT, 23, 35 }, { VOTE, 32, 1, 1, REF_OUT, 23, 35 },
+        { ECHO, 32, 192, 16389, REF_OUT, 24, 229 }, { ECHO, 32, 192, 0, REF_OUT, 24, 229 },
+        { SEND, 32, 0, 0, REF_OUT, 24, 37 }, { SEND, 32, 64, 20000, REF_OUT, 24, 101 }, { VOTE, 32, 0, 1, REF_OUT, 24, 37 },
+    };
+
+    for (size_t c = 0; c < sizeof cases / sizeof *cases; c++) {
+        ref_written got = ref_write_record(cases[c].kind, bytes, cases[c].root, bytes, cases[c].path,
+                                           bytes, cases[c].fragment, out, cases[c].out);
+
+        if (cases[c].number != 0)
+            CHECK(not_written_at(got, cases[c].number, cases[c].offset));
+        else
+            CHECK(got.number == 0 && got.offset == 0 && got.length == 39 + cases[c].path + cases[c].fragment);
+    }
 }
 
 /* ---- boards */
@@ -162,12 +260,12 @@ static void one_board_delivers_its_own_message(void)
 }
 
 /* Every combination of the faults of a step that can stand together. */
-static void a_step_looks_in_the_order_3_2_4_5_6_7_8_9(void)
+static void a_step_looks_in_the_order_3_2_4_20_to_25_6_7_8_9(void)
 {
     ref_table table = { 4, 1, 2, 16 };
 
     for (unsigned faults = 0; faults < 512; faults++) {
-        static const uint32_t order[] = { 2, 3, 2, 4, 5, 6, 7, 8, 9 };
+        static const uint32_t order[] = { 2, 3, 2, 4, 25, 6, 7, 8, 9 };
         ref_board *b = &boards[0];
         size_t state = state_len(table), len = 40;
         uint32_t from = 2, number = 0;
@@ -204,10 +302,44 @@ static void a_step_looks_in_the_order_3_2_4_5_6_7_8_9(void)
         before = *b;
         did = ref_step(b, state, from, record, len, out, sizeof out, delivery, sizeof delivery);
         CHECK(did.number == number);
+        CHECK(did.offset == (number == 25 ? len - 1 : 0));
         if (number != 0) {
             CHECK(did.record_length == 0 && did.delivery == NONE && did.message_length == 0);
             CHECK(memcmp(&before, b, sizeof before) == 0);
         }
+    }
+}
+
+/* A vote with each of the faults of the form, at a board that has heard one. */
+static void a_step_names_the_field_at_fault(void)
+{
+    static const struct {
+        uint8_t at, value;
+        size_t len;
+        uint32_t number, offset;
+    } cases[] = {
+        { 0, VOTE, 0, 20, 0 }, { 0, VOTE, 2, 20, 1 }, { 0, VOTE, 38, 20, 37 }, { 0, 0, 39, 21, 0 }, { 0, 7, 1, 21, 0 },
+        { 1, 1, 39, 22, 1 }, { 36, 1, 39, 23, 35 }, { 38, 1, 39, 24, 37 }, { 0, SEND, 39, 24, 37 },
+        { 0, VOTE, 40, 25, 39 }, { 0, VOTE, 39, 9, 0 },
+    };
+    ref_table table = { 4, 1, 2, 16 };
+
+    CHECK(ref_start(4, 1, 2, 16, 1, &boards[0], state_len(table)) == 0);
+    memset(record, 0, 40);
+    record[0] = VOTE;
+    record[2] = 32;
+    CHECK(step(&boards[0], 3, record, 39).number == 0);
+    for (size_t c = 0; c < sizeof cases / sizeof *cases; c++) {
+        uint8_t was = record[cases[c].at];
+        ref_stepped did;
+
+        record[cases[c].at] = cases[c].value;
+        did = step(&boards[0], 3, record, cases[c].len);
+        CHECK(did.number == cases[c].number && did.offset == cases[c].offset);
+        CHECK(did.record_length == 0 && did.delivery == NONE && did.message_length == 0);
+        did = step(&boards[0], 5, record, cases[c].len);        /* no such board */
+        CHECK(did.number == 4 && did.offset == 0);
+        record[cases[c].at] = was;
     }
 }
 
@@ -277,12 +409,12 @@ static void framings_worked_out_by_hand(void)
     } cases[] = {
         { 0, { 0 }, 16, "" }, { 1, { 0 }, 16, "" }, { 2, { 0, 0 }, 0, "" }, { 3, { 0, 0, 0 }, 16, "" },
         { 2, { 0, 1 }, 16, "" }, { 3, { 0, 1, 4 }, 16, "" }, { 4, { 0, 1, 4, 0 }, 16, "" },
-        { 5, { 0, 1, 4, 0, 0 }, 0, "\5" }, { 5, { 0, 1, 5, 0, 0 }, 0, "\4" }, { 5, { 0, 1, 0, 0, 0 }, 0, "\4" },
+        { 5, { 0, 1, 4, 0, 0 }, 0, "\x14" }, { 5, { 0, 1, 5, 0, 0 }, 0, "\4" }, { 5, { 0, 1, 0, 0, 0 }, 0, "\4" },
         { 5, { 0, 1, 255, 0, 0 }, 0, "\4" }, { 5, { 0, 0, 4, 0, 0 }, 16, "" }, { 5, { 0, 2, 4, 0, 0 }, 16, "" },
-        { 5, { 1, 1, 4, 0, 0 }, 16, "" }, { 5, { 0, 1, 4, 0, 1 }, 16, "" }, { 6, { 0, 1, 4, 0, 1, 3 }, 0, "\5" },
+        { 5, { 1, 1, 4, 0, 0 }, 16, "" }, { 5, { 0, 1, 4, 0, 1 }, 16, "" }, { 6, { 0, 1, 4, 0, 1, 3 }, 0, "\x14" },
         { 6, { 0, 1, 4, 0, 0, 3 }, 16, "" }, { 6, { 0, 1, 4, 1, 0, 3 }, 16, "" }, { 6, { 0, 1, 4, 0, 2, 3 }, 16, "" },
-        { 8, { 0, 2, 4, 0, 0, 9, 0, 0 }, 0, "\5\4" }, { 8, { 0, 1, 4, 0, 0, 9, 0, 0 }, 16, "" },
-        { 8, { 0, 1, 4, 0, 3, 9, 0, 0 }, 0, "\5" }, { 8, { 0, 3, 4, 0, 0, 9, 0, 0 }, 16, "" },
+        { 8, { 0, 2, 4, 0, 0, 9, 0, 0 }, 0, "\x14\4" }, { 8, { 0, 1, 4, 0, 0, 9, 0, 0 }, 16, "" },
+        { 8, { 0, 1, 4, 0, 3, 9, 0, 0 }, 0, "\x15" }, { 8, { 0, 3, 4, 0, 0, 9, 0, 0 }, 16, "" },
         { 7, { 0, 2, 4, 0, 0, 9, 0 }, 16, "" }, { 9, { 0, 2, 4, 0, 0, 9, 0, 0, 0 }, 16, "" },
     };
 
@@ -312,7 +444,7 @@ static void counts_0_to_255_are_taken_and_256_refused_with_16(void)
         memset(answers, 77, sizeof answers);
         CHECK(mail(&boards[0], mailbox, len, count).number == (count <= 255 ? 0 : 16));
         for (size_t i = 0; i < sizeof answers; i++)
-            CHECK(answers[i] == (i >= count || count > 255 ? 77 : i % 5 == 0 ? 4 : 5));
+            CHECK(answers[i] == (i >= count || count > 255 ? 77 : i % 5 == 0 ? 4 : i % 3 == 0 ? 20 : 21));
         if (count > 0)
             CHECK(mail(&boards[0], mailbox, len, count - 1).number == 16);
         len = add_item(mailbox, len, (uint8_t)(count % 5), mailbox, count % 3);
@@ -322,7 +454,7 @@ static void counts_0_to_255_are_taken_and_256_refused_with_16(void)
 /* One mailbox with an item for each answer; n 4, t 1, the sender is board 2. */
 static void every_answer_of_an_item_stands_in_its_place_and_the_others_go_on(void)
 {
-    static const uint8_t right[] = { 4, 4, 5, 6, 0, 9, 7, 0, 0, 9, 0, 8, 0, 0, 8, 8 };
+    static const uint8_t right[] = { 4, 4, 20, 21, 22, 23, 24, 25, 6, 0, 9, 7, 0, 0, 9, 0, 8, 0, 0, 8, 8 };
     static uint8_t sends[5][REF_OUT];
     ref_table table = { 4, 1, 2, 16 };
     size_t len = empty_mailbox(mailbox), sent[5], above;
@@ -335,6 +467,15 @@ static void every_answer_of_an_item_stands_in_its_place_and_the_others_go_on(voi
     len = add_item(mailbox, len, 0, record, 39);
     len = add_item(mailbox, len, 5, record, 39);
     len = add_item(mailbox, len, 1, record, 38);
+    for (size_t i = 0; i < 4; i++) {                            /* kind, root count, path count, fragment count */
+        static const uint8_t places[] = { 0, 2, 36, 38 };
+        uint8_t was = record[places[i]];
+
+        record[places[i]] = 9;
+        len = add_item(mailbox, len, 1, record, 39);
+        record[places[i]] = was;
+    }
+    len = add_item(mailbox, len, 1, record, 40);
     len = add_item(mailbox, len, 3, sends[1], sent[1]);         /* a send, and not from the sender */
     len = add_item(mailbox, len, 2, sends[1], sent[1]);         /* echoed */
     len = add_item(mailbox, len, 2, sends[1], sent[1]);
@@ -431,17 +572,17 @@ static void send_all(ref_table table, int manner, const uint8_t *message, size_t
             area[i * s_max] = 0x55;
     ref_tree(area, s_max, length, table.n, root, paths, nodes);
     for (uint32_t to = 1; to <= table.n; to++) {
-        ref_sized sent;
+        uint32_t sent;
 
         if (manner == HALF_SENT && to > table.n / 2)
             continue;
         if (manner == TWO_MESSAGES && to % 2 && len > 0)
-            sent = ref_send(table.n, table.t, table.sender, table.longest, message, len - 1, to, record, REF_OUT);
+            sent = ref_send(table.n, table.t, table.sender, table.longest, message, len - 1, to, record, REF_OUT).length;
         else
             sent = ref_write_record(SEND, root, 32, paths + (to - 1) * 192, 32 * nodes[to - 1],
-                                    area + (to - 1) * s_max, length, record, REF_OUT);
-        CHECK(sent.number == 0);
-        hand_in(table.sender, to, record, sent.length);
+                                    area + (to - 1) * s_max, length, record, REF_OUT).length;
+        CHECK(sent > 0);
+        hand_in(table.sender, to, record, sent);
     }
 }
 
@@ -629,15 +770,17 @@ static const test hand_tests[] = {
 };
 
 static const test record_tests[] = {
-    TEST(path_count_6_is_read_and_7_refused_with_5),
-    TEST(kinds_0_and_4_to_255_are_refused_with_5),
+    TEST(faults_worked_out_by_hand),
+    TEST(path_count_6_is_read_and_7_refused_with_23),
+    TEST(kinds_0_and_4_to_255_are_refused_with_21),
     TEST(what_is_written_is_read_and_no_other_length_is),
-    TEST(fragments_of_16388_bytes_are_written_and_longer_ones_refused_with_5),
+    TEST(the_writer_s_faults_worked_out_by_hand),
 };
 
 static const test board_tests[] = {
     TEST(one_board_delivers_its_own_message),
-    TEST(a_step_looks_in_the_order_3_2_4_5_6_7_8_9),
+    TEST(a_step_looks_in_the_order_3_2_4_20_to_25_6_7_8_9),
+    TEST(a_step_names_the_field_at_fault),
     TEST(out_and_delivery_are_needed_in_every_step),
     TEST(a_state_s_bytes_are_decoded_field_by_field),
 };
