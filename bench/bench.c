@@ -506,12 +506,10 @@ static void other_step(void)
 /* The record of that kind that belongs to a board's place. */
 static void make_record(uint32_t kind, uint32_t board)
 {
-    tumbeliko_sized sent = tumbeliko_send(n, t, 1, LONGEST, message, LONGEST, board, record, sizeof record);
-
+    record_len = tumbeliko_send(n, t, 1, LONGEST, message, LONGEST, board, record, sizeof record).length;
     if (kind == 3)
-        sent = tumbeliko_write_record(3, root, 32, root, 0, root, 0, record, sizeof record);
+        record_len = tumbeliko_write_record(3, root, 32, root, 0, root, 0, record, sizeof record).length;
     record[0] = (uint8_t)kind;
-    record_len = sent.length;
     from = kind == 1 ? 1 : board;
 }
 
@@ -558,7 +556,8 @@ static void step_row(const char *what, uint32_t number, uint32_t delivery)
     memcpy(other_base, &boards[0], offsetof(ref_board, fragment));
     ours = our_step_of(0, from, record, record_len);
     other = other_step_of(0, from, record, record_len);
-    must(ours.number == number && other.number == number && ours.delivery == delivery && other.delivery == delivery
+    must(ours.number == number && other.number == number && ours.offset == other.offset
+         && ours.delivery == delivery && other.delivery == delivery
          && ours.record_length == other.record_length && memcmp(out, other_out, ours.record_length) == 0
          && ours.message_length == other.message_length && memcmp(back, other_back, ours.message_length) == 0, what);
     snprintf(input, sizeof input, "%s, n %u, 16,384 B", what, n);
@@ -584,7 +583,7 @@ static void step_rows(void)
     make_record(3, n);
     step_row("refused 9", 9, 0);
     record_len--;
-    step_row("refused 5", 5, 0);
+    step_row("refused 20", TUMBELIKO_CUT_OFF, 0);
     begin_board();
     hear(2, 1, (uint32_t)k - 1);
     hear(3, 1, n - t);

@@ -23,10 +23,11 @@ static void read_both(size_t len)
     ref_parts right = ref_read_record(record, len);
 
     note(right.number);
+    SAME(ref_form_fault(right.number) ? right.offset <= len : right.offset == 0);
 #ifdef WITH_LIBRARY
     tumbeliko_parts got = tumbeliko_read_record(lend(0, record, len), len);
 
-    SAME(got.number == right.number && got.kind == right.kind);
+    SAME(got.number == right.number && got.offset == right.offset && got.kind == right.kind);
     SAME(got.nodes == right.nodes && got.fragment_length == right.fragment_length);
     SAME(holds(0, record));
 #endif
@@ -57,6 +58,8 @@ void try_damaged_record(void)
     size_t len = draw_record();
 
     len = damage(record, len, REF_OUT + 100);
+    if (draw_byte() > 127)
+        change_a_number(record, len);
     read_both(damage(record, len, REF_OUT + 100));
 }
 
@@ -66,7 +69,7 @@ void try_write_record(void)
     uint32_t kind = draw_byte() < 240 ? draw_byte() % 5u : draw_number();
     size_t root_len = draw_length(32), path_len = draw_length(32 * (size_t)(draw_byte() % 8));
     size_t fragment_len = draw_byte() < 220 ? random_below(500) : 16380 + draw_byte() % 12u, out_len = draw_length(REF_OUT);
-    ref_sized right;
+    ref_written right;
 
     random_bytes(root, root_len);
     random_bytes(path, path_len);
@@ -75,12 +78,13 @@ void try_write_record(void)
     memcpy(new_out, old_out, out_len);
     right = ref_write_record(kind, root, root_len, path, path_len, fragment, fragment_len, new_out, out_len);
     note(right.number);
+    SAME(ref_form_fault(right.number) || right.offset == 0);
 #ifdef WITH_LIBRARY
-    tumbeliko_sized got = tumbeliko_write_record(kind, lend(0, root, root_len), root_len, lend(1, path, path_len), path_len,
-                                                 lend(2, fragment, fragment_len), fragment_len,
-                                                 lend(3, old_out, out_len), out_len);
+    tumbeliko_written got = tumbeliko_write_record(kind, lend(0, root, root_len), root_len, lend(1, path, path_len), path_len,
+                                                   lend(2, fragment, fragment_len), fragment_len,
+                                                   lend(3, old_out, out_len), out_len);
 
-    SAME(got.number == right.number && got.length == right.length);
+    SAME(got.number == right.number && got.offset == right.offset && got.length == right.length);
     SAME(holds(0, root) && holds(1, path) && holds(2, fragment) && holds(3, new_out));
 #endif
 }
@@ -193,13 +197,14 @@ static void step_both(uint32_t from, size_t len)
     note(right.number);
     note_delivery(right.delivery);
     SAME(right.number != 0 || ref_sound(&board));
+    SAME(ref_form_fault(right.number) || right.offset == 0);
 #ifdef WITH_LIBRARY
     uint8_t *lent = lend(0, state, state_len);
     tumbeliko_stepped got = tumbeliko_step(lent, state_len, from, lend(1, record, len), len,
                                            lend(2, old_out, out_len), out_len,
                                            lend(3, old_delivery, delivery_len), delivery_len);
 
-    SAME(got.number == right.number && got.record_length == right.record_length);
+    SAME(got.number == right.number && got.offset == right.offset && got.record_length == right.record_length);
     SAME(got.delivery == right.delivery && got.message_length == right.message_length);
     SAME(right.number == 0 ? same_board(lent) : holds(0, state));
     SAME(holds(1, record) && holds(2, new_out) && holds(3, new_delivery));
@@ -231,6 +236,8 @@ static size_t draw_tree_record(uint32_t from)
     if (drawn > 249)
         return too_long(kind, one);
     len = tree_record(one, kind, place, record);
+    if (drawn > 225 && drawn < 235)
+        change_a_number(record, len);
     return drawn > 225 ? damage(record, len, REF_OUT + 100) : len;
 }
 

@@ -12,10 +12,9 @@ static const struct {
 };
 
 #define CALLS (sizeof calls / sizeof *calls)
-#define NUMBERS 17              /* the refusals' numbers are below this */
 
 static size_t running;
-static unsigned long counts[CALLS][NUMBERS], deliveries[3];
+static unsigned long counts[CALLS][REF_NUMBERS], deliveries[3];
 
 void differs(const char *fact)
 {
@@ -24,7 +23,7 @@ void differs(const char *fact)
 
 void note(uint32_t number)
 {
-    counts[running][number % NUMBERS]++;
+    counts[running][number % REF_NUMBERS]++;
 }
 
 void note_delivery(uint32_t delivery)
@@ -44,10 +43,10 @@ void show_counts(void)
     for (size_t i = 0; i < CALLS; i++) {
         unsigned long all = 0;
 
-        for (int number = 0; number < NUMBERS; number++)
+        for (int number = 0; number < REF_NUMBERS; number++)
             all += counts[i][number];
         printf("  %-20s %9lu calls", calls[i].name, all);
-        for (int number = 0; number < NUMBERS; number++)
+        for (int number = 0; number < REF_NUMBERS; number++)
             if (counts[i][number] > 0)
                 printf("  %d: %lu", number, counts[i][number]);
         printf("\n");

@@ -1,6 +1,7 @@
 /*
  * The calls of records and boards (read record, write record, start, send,
- * step) against the reference and against the sentences of document 01.
+ * step) against the reference and against the sentences of document 01 and
+ * of request 2 of document 02.
  *
  * Every call is made with each buffer before an inaccessible page and again
  * with each buffer after one. The reference makes the same call on copies;
@@ -19,6 +20,14 @@ static uint8_t data[ROOM];
 
 /* ---- the same call by the library and by the reference */
 
+/* The number and the offset of every answer that has both. */
+static void check_fault(uint32_t number, uint32_t offset, uint32_t right_number, uint32_t right_offset)
+{
+    CHECK(number == right_number);
+    CHECK(offset == right_offset);
+    CHECK(ref_form_fault(number) || offset == 0);
+}
+
 static ref_parts check_reader(const uint8_t *bytes, size_t len)
 {
     ref_parts right = ref_read_record(bytes, len);
@@ -28,7 +37,7 @@ static ref_parts check_reader(const uint8_t *bytes, size_t len)
 
         place(p);
         got = tumbeliko_read_record(lend(0, bytes, len), len);
-        CHECK(got.number == right.number);
+        check_fault(got.number, got.offset, right.number, right.offset);
         CHECK(got.kind == right.kind && got.nodes == right.nodes && got.fragment_length == right.fragment_length);
         CHECK(holds(0, bytes));
     }
@@ -36,16 +45,16 @@ static ref_parts check_reader(const uint8_t *bytes, size_t len)
 }
 
 /* Writes into new_out what the writer leaves there. */
-static ref_sized check_writer(uint32_t kind, const uint8_t *root, size_t root_len, const uint8_t *path,
-                              size_t path_len, const uint8_t *fragment, size_t fragment_len, size_t out_len)
+static ref_written check_writer(uint32_t kind, const uint8_t *root, size_t root_len, const uint8_t *path,
+                                size_t path_len, const uint8_t *fragment, size_t fragment_len, size_t out_len)
 {
-    ref_sized right;
+    ref_written right;
 
     random_bytes(old_out, out_len);
     memcpy(new_out, old_out, out_len);
     right = ref_write_record(kind, root, root_len, path, path_len, fragment, fragment_len, new_out, out_len);
     for (int p = 0; p < PLACES; p++) {
-        tumbeliko_sized got;
+        tumbeliko_written got;
         uint8_t *lent[4];
 
         place(p);
@@ -55,7 +64,7 @@ static ref_sized check_writer(uint32_t kind, const uint8_t *root, size_t root_le
         lent[3] = lend(3, old_out, out_len);
         got = tumbeliko_write_record(kind, lent[0], root_len, lent[1], path_len, lent[2], fragment_len,
                                      lent[3], out_len);
-        CHECK(got.number == right.number);
+        check_fault(got.number, got.offset, right.number, right.offset);
         CHECK(got.length == right.length);
         CHECK(holds(0, root));
         CHECK(holds(1, path));
@@ -117,7 +126,7 @@ static uint32_t check_start(table b, uint32_t own, size_t state_len)
 }
 
 /* how often each answer, record and delivery was seen in a test */
-static unsigned long refusals[16], put_out[4], deliveries[3];
+static unsigned long refusals[REF_NUMBERS], put_out[4], deliveries[3];
 
 static void forget_what_was_seen(void)
 {
@@ -151,7 +160,7 @@ static ref_stepped check_step_with(uint8_t *state, size_t state_len, uint32_t fr
         lent[2] = lend(2, old_out, out_len);
         lent[3] = lend(3, old_delivery, delivery_len);
         got = tumbeliko_step(lent[0], state_len, from, lent[1], len, lent[2], out_len, lent[3], delivery_len);
-        CHECK(got.number == right.number);
+        check_fault(got.number, got.offset, right.number, right.offset);
         CHECK(got.record_length == right.record_length);
         CHECK(got.delivery == right.delivery);
         CHECK(got.message_length == right.message_length);
@@ -200,146 +209,378 @@ static ref_stepped hand(const tree *one, uint32_t kind, uint32_t from)
     return check_step(from, record, len);
 }
 
-/* ---- read record, write record */
+/* ---- records: what the tests themselves say of them */
 
-/* A well-formed record of that kind with random bytes. */
+/* A number and its offset. */
+typedef struct {
+    uint32_t number;
+    size_t offset;
+} fault;
+
+static bool reads(ref_parts got, fault right)
+{
+    return got.number == right.number && got.offset == right.offset;
+}
+
+/* What the first `len` bytes of a record with these sections get if the
+ * fields of the set `wrong` are wrong: its fields one after the other, each
+ * with the number that it is refused with. */
+enum { FIELDS = 7 };
+
+static fault first_fault(size_t nodes, size_t fragment_len, unsigned wrong, size_t len)
+{
+    const size_t end = FRAGMENT_AT(nodes) + fragment_len;
+    const struct { size_t at, bytes; uint32_t number; } fields[FIELDS] = {
+        { KIND_AT, 1, 21 },
+        { ROOT_COUNT_AT, 2, 22 },
+        { ROOT_AT, 32, 0 },
+        { PATH_COUNT_AT, 2, 23 },
+        { PATH_AT, 32 * nodes, 0 },
+        { FRAGMENT_COUNT_AT(nodes), 2, 24 },
+        { FRAGMENT_AT(nodes), fragment_len, 0 },
+    };
+
+    for (int f = 0; f < FIELDS; f++) {
+        if (len < fields[f].at + fields[f].bytes)
+            return (fault){ 20, fields[f].at };
+        if (wrong >> f & 1)
+            return (fault){ fields[f].number, fields[f].at };
+    }
+    return len > end ? (fault){ 25, end } : (fault){ 0, 0 };
+}
+
+static void put_count(uint8_t *at, size_t count)
+{
+    at[0] = (uint8_t)(count >> 8);
+    at[1] = (uint8_t)count;
+}
+
+/* Random bytes, and among them a kind and the counts of a record. Answers
+ * the length that the counts ask for. */
+static size_t draw_bytes(uint32_t kind, size_t root, size_t nodes, size_t fragment_len)
+{
+    random_bytes(record, FRAGMENT_AT(nodes) + fragment_len + 100);
+    record[KIND_AT] = (uint8_t)kind;
+    put_count(record + ROOT_COUNT_AT, root);
+    put_count(record + PATH_COUNT_AT, nodes);
+    put_count(record + FRAGMENT_COUNT_AT(nodes), fragment_len);
+    return FRAGMENT_AT(nodes) + fragment_len;
+}
+
+/* A well-formed record of that kind with random bytes; a vote has neither
+ * nodes nor a fragment. */
 static size_t draw_record(uint32_t kind, uint32_t nodes, uint32_t fragment_len)
 {
-    random_bytes(data, 32 + 192 + fragment_len);
-    return ref_write_record(kind, data, 32, data + 32, kind == VOTE ? 0 : 32 * nodes, data + 224,
-                            kind == VOTE ? 0 : fragment_len, record, REF_OUT).length;
+    return kind == VOTE ? draw_bytes(VOTE, 32, 0, 0) : draw_bytes(kind, 32, nodes, fragment_len);
 }
 
-static void every_prefix_of_a_record_is_refused_with_5(void)
-{
-    for (uint32_t kind = SEND; kind <= VOTE; kind++)
-        for (uint32_t nodes = 0; nodes <= 6; nodes++) {
-            size_t len = draw_record(kind, nodes, 1 + random_below(40));
+/* ---- read record */
 
-            random_bytes(record + len, 40);     /* and what goes on after the last section */
-            for (size_t cut = 0; cut <= len + 40; cut++)
-                CHECK(check_reader(record, cut).number == (cut == len ? 0 : 5));
-        }
+static void the_header_names_the_numbers_and_the_places(void)
+{
+    CHECK(TUMBELIKO_CUT_OFF == 20 && TUMBELIKO_BAD_KIND == 21 && TUMBELIKO_BAD_ROOT_COUNT == 22);
+    CHECK(TUMBELIKO_BAD_PATH_COUNT == 23 && TUMBELIKO_BAD_FRAGMENT_COUNT == 24 && TUMBELIKO_LEFT_OVER == 25);
+    CHECK(TUMBELIKO_NUMBERS == REF_NUMBERS);
+    CHECK(TUMBELIKO_RECORD_KIND == KIND_AT && TUMBELIKO_RECORD_ROOT_COUNT == ROOT_COUNT_AT);
+    CHECK(TUMBELIKO_RECORD_ROOT == ROOT_AT && TUMBELIKO_RECORD_PATH_COUNT == PATH_COUNT_AT);
+    CHECK(TUMBELIKO_RECORD_PATH == PATH_AT);
+    for (uint32_t nodes = 0; nodes <= 6; nodes++) {
+        CHECK(TUMBELIKO_RECORD_FRAGMENT_COUNT(nodes) == 37 + 32 * nodes);
+        CHECK(TUMBELIKO_RECORD_FRAGMENT(nodes) == 39 + 32 * nodes);
+    }
 }
 
-static void every_damage_of_one_byte_is_judged_as_the_reference_judges_it(void)
+static const uint32_t some_lengths[] = { 1, 2, 3, 31, 32, 33, 40, 255, 256, 700 };
+#define SOME_LENGTHS (sizeof some_lengths / sizeof *some_lengths)
+
+/* All cuts of the record that was drawn, and up to `more` bytes after it. */
+static void check_cuts(uint32_t nodes, uint32_t fragment_len, size_t more)
 {
-    for (uint32_t kind = SEND; kind <= VOTE; kind++)
-        for (uint32_t nodes = 0; nodes <= 6; nodes += kind == VOTE ? 7 : 2) {
-            size_t len = draw_record(kind, nodes, 5);
+    size_t len = FRAGMENT_AT(nodes) + fragment_len;
 
-            for (size_t at = 0; at < len; at++) {
-                uint8_t was = record[at];
+    for (size_t cut = 0; cut <= len + more; cut++)
+        CHECK(reads(check_reader(record, cut), first_fault(nodes, fragment_len, 0, cut)));
+}
 
-                for (uint32_t other = 0; other < 256; other++) {
-                    record[at] = (uint8_t)other;
-                    check_reader(record, len);
-                }
-                record[at] = was;
+static void every_cut_is_20_at_the_field_of_the_first_missing_byte_and_more_bytes_are_25(void)
+{
+    for (uint32_t kind = SEND; kind <= ECHO; kind++)
+        for (uint32_t nodes = 0; nodes <= 6; nodes++)
+            for (size_t l = 0; l < SOME_LENGTHS; l++) {
+                draw_record(kind, nodes, some_lengths[l]);
+                check_cuts(nodes, some_lengths[l], 40);
             }
-            CHECK(check_reader(record, len).kind == kind);
+    draw_record(VOTE, 0, 0);
+    check_cuts(0, 0, 100);
+}
+
+static void every_cut_of_the_longest_record_and_cuts_of_other_long_ones_are_20_too(void)
+{
+    draw_record(ECHO, 6, 16388);
+    check_cuts(6, 16388, 40);
+    for (uint32_t kind = SEND; kind <= ECHO; kind++)
+        for (uint32_t nodes = 0; nodes <= 6; nodes++) {
+            size_t len = draw_record(kind, nodes, 16388), cut = 0;
+
+            while (cut <= len + 40) {
+                CHECK(reads(check_reader(record, cut), first_fault(nodes, 16388, 0, cut)));
+                cut += cut < 300 || cut > len - 40 ? 1 : 1 + random_below(200);
+            }
         }
 }
 
-static void kinds_0_and_4_to_255_are_refused_with_5(void)
+/* The cases of request 2, byte for byte. */
+static void cuts_stated_one_by_one(void)
+{
+    size_t len = draw_record(ECHO, 2, 5);
+    static const struct { size_t len, offset; } cuts[] = {
+        { 0, 0 }, { 1, 1 }, { 2, 1 }, { 3, 3 }, { 34, 3 }, { 35, 35 }, { 36, 35 }, { 37, 37 }, { 100, 37 }, { 101, 101 },
+        { 102, 101 }, { 103, 103 }, { 107, 103 },
+    };
+
+    CHECK(len == 108 && reads(check_reader(record, len), (fault){ 0, 0 }));
+    for (size_t c = 0; c < sizeof cuts / sizeof *cuts; c++)
+        CHECK(reads(check_reader(record, cuts[c].len), (fault){ 20, cuts[c].offset }));
+    CHECK(reads(check_reader(record, 109), (fault){ 25, 108 }));
+    CHECK(reads(check_reader(record, 200), (fault){ 25, 108 }));
+    draw_bytes(ECHO, 32, 7, 5);
+    CHECK(reads(check_reader(record, 37), (fault){ 23, 35 }));          /* 02 0020 root 0007 and no more */
+    CHECK(reads(check_reader(record, 36), (fault){ 20, 35 }));
+    record[0] = 4;
+    CHECK(reads(check_reader(record, 1), (fault){ 21, 0 }));
+}
+
+/* What a well-formed record gets with the byte at `at` changed to `value`.
+ * Says no where that hangs on bytes that are only then read as a count. */
+static bool said_of_change(uint32_t kind, uint32_t nodes, uint32_t fragment_len, size_t at, uint8_t value, fault *right)
+{
+    size_t len = FRAGMENT_AT(nodes) + fragment_len, low = at, count;
+
+    *right = (fault){ 0, 0 };
+    if (at == KIND_AT) {
+        bool vote = value == VOTE;
+
+        if (value < SEND || value > VOTE)
+            *right = (fault){ 21, KIND_AT };
+        else if (vote != (kind == VOTE))
+            *right = nodes > 0 ? (fault){ 23, PATH_COUNT_AT } : (fault){ 24, FRAGMENT_COUNT_AT(0) };
+        return true;
+    }
+    if (at == ROOT_COUNT_AT || at == PATH_COUNT_AT || at == FRAGMENT_COUNT_AT(nodes))
+        low = at + 1;
+    count = low > at ? (size_t)value << 8 | record[low] : (size_t)record[at - 1] << 8 | value;
+    if (low == ROOT_COUNT_AT + 1) {
+        if (count != 32)
+            *right = (fault){ 22, ROOT_COUNT_AT };
+    } else if (low == PATH_COUNT_AT + 1) {
+        if (count > (kind == VOTE ? 0 : 6))
+            *right = (fault){ 23, PATH_COUNT_AT };
+        else if (PATH_AT + 32 * count > len)
+            *right = (fault){ 20, PATH_AT };
+        else
+            return count == nodes;
+    } else if (low == FRAGMENT_COUNT_AT(nodes) + 1) {
+        if (kind == VOTE ? count > 0 : count < 1 || count > 16388)
+            *right = (fault){ 24, FRAGMENT_COUNT_AT(nodes) };
+        else if (count > fragment_len)
+            *right = (fault){ 20, FRAGMENT_AT(nodes) };
+        else if (count < fragment_len)
+            *right = (fault){ 25, FRAGMENT_AT(nodes) + count };
+    }
+    return true;
+}
+
+/* The byte at `at` of the record that was drawn, changed to every other
+ * value. Counts what the test could say by itself. */
+static unsigned long said;
+
+static void check_changes(uint32_t kind, uint32_t nodes, uint32_t fragment_len, size_t at)
+{
+    size_t len = FRAGMENT_AT(nodes) + fragment_len;
+    uint8_t was = record[at];
+
+    for (uint32_t other = 0; other < 256; other++) {
+        fault right;
+        bool says;
+        ref_parts got;
+
+        record[at] = was;
+        says = said_of_change(kind, nodes, fragment_len, at, (uint8_t)other, &right);
+        record[at] = (uint8_t)other;
+        got = check_reader(record, len);
+        if (says)
+            CHECK(reads(got, right));
+        said += says;
+    }
+    record[at] = was;
+}
+
+static void every_change_of_one_byte_is_judged_as_the_reference_judges_it(void)
+{
+    unsigned long changes = 0;
+
+    said = 0;
+    for (uint32_t kind = SEND; kind <= VOTE; kind++)
+        for (uint32_t nodes = 0; nodes <= (kind == VOTE ? 0 : 6); nodes++)
+            for (uint32_t l = 0; l < (kind == VOTE ? 1 : 2); l++) {
+                uint32_t fragment_len = kind == VOTE ? 0 : l == 0 ? 1 : 5;
+                size_t len = draw_record(kind, nodes, fragment_len);
+
+                for (size_t at = 0; at < len; at++, changes += 256)
+                    check_changes(kind, nodes, fragment_len, at);
+                CHECK(check_reader(record, len).kind == kind);
+            }
+    CHECK(said > changes / 20 * 19);
+}
+
+static void changes_of_one_byte_of_long_records_are_judged_as_the_reference_judges_them(void)
+{
+    static const uint32_t lengths[] = { 255, 256, 257, 700, 16387, 16388 };
+
+    for (uint32_t kind = SEND; kind <= ECHO; kind++)
+        for (uint32_t nodes = 0; nodes <= 6; nodes++)
+            for (size_t l = 0; l < sizeof lengths / sizeof *lengths; l++) {
+                size_t len = draw_record(kind, nodes, lengths[l]);
+
+                for (uint32_t which = 0; which < NUMBER_BYTES; which++)
+                    if (lengths[l] < 1000 || nodes % 3 == 0)
+                        check_changes(kind, nodes, lengths[l], number_byte(nodes, which));
+                check_changes(kind, nodes, lengths[l], random_below((uint32_t)len));
+                CHECK(check_reader(record, len).fragment_length == lengths[l]);
+            }
+}
+
+/* Every set of wrong fields, and every cut of it. */
+static void of_several_faults_the_first_field_counts(void)
+{
+    enum { KIND = 1 << 0, ROOT = 1 << 1, PATH = 1 << 3, FRAGMENT = 1 << 5 };
+
+    for (uint32_t kind = SEND; kind <= VOTE; kind++)
+        for (unsigned wrong = 0; wrong < 1u << FIELDS; wrong++) {
+            uint32_t nodes = kind == VOTE ? 0 : 2, bytes = kind == VOTE ? 0 : 5;
+
+            if (wrong & ~(unsigned)(KIND | ROOT | PATH | FRAGMENT))
+                continue;
+            for (int turn = 0; turn < 3; turn++) {
+                size_t len = draw_record(kind, nodes, bytes);
+
+                if (wrong & KIND)
+                    record[KIND_AT] = (uint8_t)(turn == 0 ? 0 : 4 + random_below(252));
+                if (wrong & ROOT)
+                    put_count(record + ROOT_COUNT_AT, (const size_t[]){ 31, 33, 256 + 32 }[turn]);
+                if (wrong & PATH)
+                    put_count(record + PATH_COUNT_AT, (const size_t[]){ 7, 256 + nodes, 65535 }[turn]);
+                if (wrong & FRAGMENT)
+                    put_count(record + FRAGMENT_COUNT_AT(nodes),
+                              (const size_t[]){ 16389, 65535, kind == VOTE ? 1 : 0 }[turn]);
+                for (size_t cut = 0; cut <= len + 3; cut++)
+                    CHECK(reads(check_reader(record, cut), first_fault(nodes, bytes, wrong, cut)));
+            }
+        }
+}
+
+static void kinds_0_and_4_to_255_are_refused_with_21_whatever_follows(void)
 {
     for (uint32_t of = SEND; of <= VOTE; of++) {
         size_t len = draw_record(of, 3, 20);
 
         for (uint32_t kind = 0; kind < 256; kind++) {
-            record[0] = (uint8_t)kind;
-            CHECK(check_reader(record, len).number
-                  == (kind == of || (of != VOTE && (kind == SEND || kind == ECHO)) ? 0 : 5));
+            record[KIND_AT] = (uint8_t)kind;
+            if (kind == 0 || kind >= 4)
+                for (size_t cut = 1; cut <= len + 1; cut++)
+                    CHECK(reads(check_reader(record, cut), (fault){ 21, KIND_AT }));
+            else
+                CHECK((check_reader(record, len).number == 0) == ((kind == VOTE) == (of == VOTE)));
         }
     }
 }
 
-static void path_count_6_is_read_and_7_refused_with_5(void)
+static void path_count_6_is_read_and_7_refused_with_23(void)
 {
     for (uint32_t kind = SEND; kind <= ECHO; kind++)
         for (uint32_t nodes = 0; nodes <= 8; nodes++) {
-            size_t at = 37 + 32 * nodes, bytes = 1 + random_below(9);
+            size_t len = draw_bytes(kind, 32, nodes, 1 + random_below(9));
 
-            random_bytes(record, 400);
-            memcpy(record, (const uint8_t[]){ (uint8_t)kind, 0, 32 }, 3);
-            memcpy(record + 35, (const uint8_t[]){ 0, (uint8_t)nodes }, 2);
-            memcpy(record + at, (const uint8_t[]){ 0, (uint8_t)bytes }, 2);
-            CHECK(check_reader(record, at + 2 + bytes).number == (nodes <= 6 ? 0 : 5));
-            record[35] = 1;                     /* 256 more are named than are there */
-            CHECK(check_reader(record, at + 2 + bytes).number == 5);
+            CHECK(reads(check_reader(record, len), nodes <= 6 ? (fault){ 0, 0 } : (fault){ 23, PATH_COUNT_AT }));
+            record[PATH_COUNT_AT] = 1;          /* 256 more are named than are there */
+            CHECK(reads(check_reader(record, len), (fault){ 23, PATH_COUNT_AT }));
+            CHECK(reads(check_reader(record, PATH_AT), (fault){ 23, PATH_COUNT_AT }));
         }
 }
 
-static void fragments_of_1_to_16388_bytes_are_read_and_others_refused_with_5(void)
+static void fragments_of_1_to_16388_bytes_are_read_and_others_refused_with_24(void)
 {
     static const uint32_t lengths[] = { 0, 1, 2, 255, 256, 257, 16384, 16387, 16388, 16389, 16390, 32768, 65535 };
 
     for (uint32_t kind = SEND; kind <= ECHO; kind++)
         for (size_t l = 0; l < sizeof lengths / sizeof *lengths; l++)
             for (uint32_t nodes = 0; nodes <= 6; nodes += 6) {
-                size_t at = 37 + 32 * nodes;
-                uint32_t bytes = lengths[l];
+                bool good = lengths[l] >= 1 && lengths[l] <= 16388;
+                size_t len = draw_bytes(kind, 32, nodes, lengths[l]), count = FRAGMENT_COUNT_AT(nodes);
 
-                random_bytes(record, at + 2 + bytes);
-                memcpy(record, (const uint8_t[]){ (uint8_t)kind, 0, 32 }, 3);
-                memcpy(record + 35, (const uint8_t[]){ 0, (uint8_t)nodes }, 2);
-                memcpy(record + at, (const uint8_t[]){ (uint8_t)(bytes >> 8), (uint8_t)bytes }, 2);
-                CHECK(check_reader(record, at + 2 + bytes).number == (bytes >= 1 && bytes <= 16388 ? 0 : 5));
-                CHECK(check_reader(record, at + 3 + bytes).number == 5);
-                CHECK(check_reader(record, at + 1 + bytes).number == 5);
+                CHECK(reads(check_reader(record, len), good ? (fault){ 0, 0 } : (fault){ 24, count }));
+                CHECK(reads(check_reader(record, len + 1), good ? (fault){ 25, len } : (fault){ 24, count }));
+                if (lengths[l] > 0)
+                    CHECK(reads(check_reader(record, len - 1), good ? (fault){ 20, count + 2 } : (fault){ 24, count }));
+                CHECK(reads(check_reader(record, count + 2), good ? (fault){ 20, count + 2 } : (fault){ 24, count }));
+                CHECK(reads(check_reader(record, count + 1), (fault){ 20, count }));
             }
 }
 
-static void a_vote_with_a_path_or_a_fragment_is_refused_with_5(void)
+static void a_vote_with_a_path_is_refused_with_23_and_with_a_fragment_alone_with_24(void)
 {
     for (uint32_t nodes = 0; nodes <= 6; nodes++)
         for (uint32_t bytes = 1; bytes <= 3; bytes++) {
-            size_t len = draw_record(ECHO, nodes, bytes);
+            size_t len = draw_bytes(VOTE, 32, nodes, bytes);
 
-            record[0] = VOTE;
-            CHECK(check_reader(record, len).number == 5);
-            memcpy(record + len - bytes - 2, "\0\0", 2);        /* a path alone */
-            CHECK(check_reader(record, len - bytes).number == (nodes == 0 ? 0 : 5));
+            CHECK(reads(check_reader(record, len),
+                        nodes > 0 ? (fault){ 23, PATH_COUNT_AT } : (fault){ 24, FRAGMENT_COUNT_AT(0) }));
+            len = draw_bytes(VOTE, 32, nodes, 0);               /* a path alone */
+            CHECK(reads(check_reader(record, len), nodes > 0 ? (fault){ 23, PATH_COUNT_AT } : (fault){ 0, 0 }));
         }
     CHECK(draw_record(VOTE, 0, 0) == 39);
     CHECK(check_reader(record, 39).number == 0);
 }
 
-static void a_root_count_other_than_32_is_refused_with_5(void)
+static void a_root_count_other_than_32_is_refused_with_22(void)
 {
     for (uint32_t count = 0; count <= 70; count++) {
         random_bytes(record, 200);
-        memcpy(record, (const uint8_t[]){ VOTE, 0, (uint8_t)count }, 3);
-        memset(record + 3 + count, 0, 4);
-        CHECK(check_reader(record, 7 + count).number == (count == 32 ? 0 : 5));
-        record[1] = 1;
-        CHECK(check_reader(record, 7 + count).number == 5);
+        record[KIND_AT] = VOTE;
+        put_count(record + ROOT_COUNT_AT, count);
+        memset(record + ROOT_AT + count, 0, 4);
+        CHECK(reads(check_reader(record, 7 + count), count == 32 ? (fault){ 0, 0 } : (fault){ 22, ROOT_COUNT_AT }));
+        CHECK(reads(check_reader(record, 3), count == 32 ? (fault){ 20, ROOT_AT } : (fault){ 22, ROOT_COUNT_AT }));
+        record[ROOT_COUNT_AT] = 1;
+        CHECK(reads(check_reader(record, 7 + count), (fault){ 22, ROOT_COUNT_AT }));
     }
 }
 
 static void random_strings_are_judged_as_the_reference_judges_them(void)
 {
-    unsigned read = 0;
+    unsigned long seen[REF_NUMBERS] = { 0 };
 
     for (int i = 0; i < 20000; i++) {
         uint32_t nodes = random_below(9), bytes = random_below(12);
-        size_t len = random_below(4) ? 39 + 32 * nodes + bytes : random_below(400);
+        size_t len = random_below(4) ? FRAGMENT_AT(nodes) + bytes : random_below(400);
 
         random_bytes(record, 400);
         if (random_below(20))
-            record[0] = (uint8_t)random_below(5);
+            record[KIND_AT] = (uint8_t)random_below(5);
         if (random_below(20))
-            memcpy(record + 1, "\0\x20", 2);
+            put_count(record + ROOT_COUNT_AT, 32);
         if (random_below(20))
-            memcpy(record + 35, (const uint8_t[]){ 0, (uint8_t)nodes }, 2);
+            put_count(record + PATH_COUNT_AT, nodes);
         if (random_below(20))
-            memcpy(record + 37 + 32 * nodes, (const uint8_t[]){ 0, (uint8_t)bytes }, 2);
-        read += check_reader(record, len).number == 0;
+            put_count(record + FRAGMENT_COUNT_AT(nodes), bytes);
+        seen[check_reader(record, len).number]++;
     }
-    CHECK(read > 1000 && read < 15000);
+    CHECK(seen[0] > 1000 && seen[0] < 15000);
+    for (uint32_t number = REF_FORM_FIRST; number <= REF_FORM_LAST; number++)
+        CHECK(seen[number] > 200);
 }
 
-static void a_record_above_2_to_the_32_bytes_is_refused_with_5(void)
+static void a_record_above_2_to_the_32_bytes_is_refused_with_25(void)
 {
     size_t more = (size_t)1 << 32, len = more + 4096;
     uint8_t *bytes = vast(len);
@@ -352,28 +593,31 @@ static void a_record_above_2_to_the_32_bytes_is_refused_with_5(void)
         memcpy(bytes, record, own);
         CHECK(tumbeliko_read_record(bytes, own).number == 0);
         got = tumbeliko_read_record(bytes, more + own);
-        CHECK(got.number == 5 && got.kind == 0 && got.nodes == 0 && got.fragment_length == 0);
-        CHECK(tumbeliko_read_record(bytes, more).number == 5);
+        CHECK(got.number == 25 && got.offset == own && got.kind == 0 && got.nodes == 0 && got.fragment_length == 0);
+        got = tumbeliko_read_record(bytes, more);
+        CHECK(got.number == 25 && got.offset == own);
     }
     give_back_vast(bytes, len);
 }
+
+/* ---- write record */
 
 static void what_is_written_is_read_back(void)
 {
     for (int i = 0; i < 600; i++) {
         uint32_t kind = 1 + random_below(3), nodes = kind == VOTE ? 0 : random_below(7);
         uint32_t len = kind == VOTE ? 0 : 1 + random_below(i % 20 ? 80 : 16388);
-        ref_sized written;
+        ref_written written;
         ref_parts read;
 
         random_bytes(data, 224 + len);
         written = check_writer(kind, data, 32, data + 32, 32 * nodes, data + 224, len, REF_OUT);
-        CHECK(written.number == 0 && written.length == 39 + 32 * nodes + len);
+        CHECK(written.number == 0 && written.length == FRAGMENT_AT(nodes) + len);
         read = check_reader(new_out, written.length);
         CHECK(read.number == 0 && read.kind == kind && read.nodes == nodes && read.fragment_length == len);
-        CHECK(memcmp(new_out + 3, data, 32) == 0);
-        CHECK(memcmp(new_out + 37, data + 32, 32 * nodes) == 0);
-        CHECK(memcmp(new_out + 39 + 32 * nodes, data + 224, len) == 0);
+        CHECK(memcmp(new_out + ROOT_AT, data, 32) == 0);
+        CHECK(memcmp(new_out + PATH_AT, data + 32, 32 * nodes) == 0);
+        CHECK(memcmp(new_out + FRAGMENT_AT(nodes), data + 224, len) == 0);
     }
 }
 
@@ -385,22 +629,42 @@ static void what_is_read_is_what_would_be_written(void)
         uint32_t kind = 1 + random_below(3), nodes = random_below(7);
         size_t len = draw_record(kind, nodes, 1 + random_below(30));
         ref_parts parts;
-        ref_sized written;
+        ref_written written;
 
         flip_a_bit(record, len);
         parts = check_reader(record, len);
         if (parts.number != 0)
             continue;
         read++;
-        written = check_writer(parts.kind, record + 3, 32, record + 37, 32 * parts.nodes,
-                               record + 39 + 32 * parts.nodes, parts.fragment_length, REF_OUT);
+        written = check_writer(parts.kind, record + ROOT_AT, 32, record + PATH_AT, 32 * parts.nodes,
+                               record + FRAGMENT_AT(parts.nodes), parts.fragment_length, REF_OUT);
         CHECK(written.number == 0 && written.length == len);
         CHECK(memcmp(new_out, record, len) == 0);
     }
     CHECK(read > 500);
 }
 
-static void parts_that_no_record_has_are_refused_with_5(void)
+/* What parts of these lengths get from the writer, with an `out` that is
+ * long enough: each fault at the place that its field would have. */
+static fault said_of_parts(uint32_t kind, size_t root, size_t path, size_t fragment)
+{
+    if (kind < SEND || kind > VOTE)
+        return (fault){ 21, KIND_AT };
+    if (root != 32)
+        return (fault){ 22, ROOT_COUNT_AT };
+    if (kind == VOTE ? path > 0 : path % 32 != 0 || path > 192)
+        return (fault){ 23, PATH_COUNT_AT };
+    if (kind == VOTE ? fragment > 0 : fragment < 1 || fragment > 16388)
+        return (fault){ 24, PATH_AT + path };
+    return (fault){ 0, 0 };
+}
+
+static bool writes(ref_written got, fault right)
+{
+    return got.number == right.number && got.offset == right.offset;
+}
+
+static void parts_that_no_record_has_are_refused_with_21_to_24(void)
 {
     static const uint32_t kinds[] = { 0, 1, 2, 3, 4, 5, 255, 256, 257, 258, 259, 0x80000002, 0xffffffff };
     static const size_t roots[] = { 0, 1, 31, 32, 33, 64 }, paths[] = { 0, 1, 31, 32, 33, 63, 64, 96, 128, 160, 191,
@@ -412,53 +676,97 @@ static void parts_that_no_record_has_are_refused_with_5(void)
             for (size_t p = 0; p < sizeof paths / sizeof *paths; p++)
                 for (size_t f = 0; f < sizeof fragments / sizeof *fragments; f++) {
                     size_t root = roots[r], path = paths[p], fragment = fragments[f];
-                    bool form = root == 32 && (kinds[k] == VOTE ? path == 0 && fragment == 0
-                        : kinds[k] >= 1 && kinds[k] <= 2 && path % 32 == 0 && path <= 192 && fragment >= 1
-                          && fragment <= 16388);
+                    fault right = said_of_parts(kinds[k], root, path, fragment);
 
-                    if (!form && random_below(8) != 0 && root != 32)
+                    if (right.number != 0 && random_below(8) != 0 && root != 32)
                         continue;
                     if (fragment > 100 && random_below(4) != 0)
                         continue;
-                    CHECK(check_writer(kinds[k], data, root, data, path, data, fragment, REF_OUT).number
-                          == (form ? 0 : 5));
+                    CHECK(writes(check_writer(kinds[k], data, root, data, path, data, fragment, REF_OUT), right));
                 }
 }
 
-static void the_writer_looks_in_the_order_2_5_and_leaves_the_bytes_beyond(void)
+/* The faults of the writer in the order in which it looks, each in several
+ * ways; way 0 is none. The lengths of a vote's path and fragment are its own. */
+enum { SHORT_OUT, NO_KIND, BAD_ROOT, BAD_PATH, BAD_FRAGMENT, WRITER_FAULTS };
+enum { WAYS = 4 };
+
+/* Every combination of faults, so every pair too. */
+static void the_writer_looks_in_the_order_2_21_22_23_24(void)
+{
+    static const size_t outs[WAYS] = { REF_OUT, REF_OUT - 1, 39, 0 }, roots[WAYS] = { 32, 31, 33, 0 };
+    static const size_t paths[2][WAYS] = { { 64, 33, 224, 1 }, { 0, 32, 33, 1 } };
+    static const size_t fragments[2][WAYS] = { { 7, 0, 16389, 65536 }, { 0, 1, 16388, 16389 } };
+    static const uint32_t wrong_kinds[WAYS] = { 0, 4, 256 + ECHO, 0x80000000 + VOTE };
+
+    random_bytes(data, sizeof data);
+    for (uint32_t kind = SEND; kind <= VOTE; kind++)
+        for (int set = 0; set < WAYS * WAYS * WAYS * WAYS * WAYS; set++) {
+            int ways[WRITER_FAULTS], left = set, vote = kind == VOTE;
+            fault right = { 0, 0 };
+
+            for (int f = 0; f < WRITER_FAULTS; f++, left /= WAYS)
+                ways[f] = left % WAYS;
+            if (ways[SHORT_OUT])
+                right = (fault){ 2, 0 };
+            else if (ways[NO_KIND])
+                right = (fault){ 21, KIND_AT };
+            else if (ways[BAD_ROOT])
+                right = (fault){ 22, ROOT_COUNT_AT };
+            else if (ways[BAD_PATH])
+                right = (fault){ 23, PATH_COUNT_AT };
+            else if (ways[BAD_FRAGMENT])
+                right = (fault){ 24, PATH_AT + paths[vote][0] };
+            CHECK(writes(check_writer(ways[NO_KIND] ? wrong_kinds[ways[NO_KIND]] : kind, data, roots[ways[BAD_ROOT]],
+                                      data, paths[vote][ways[BAD_PATH]], data, fragments[vote][ways[BAD_FRAGMENT]],
+                                      outs[ways[SHORT_OUT]]), right));
+        }
+}
+
+static void a_refused_fragment_is_named_after_the_path_that_would_stand_before_it(void)
 {
     random_bytes(data, sizeof data);
-    for (uint32_t kind = 0; kind <= 4; kind++)
-        for (size_t root = 31; root <= 32; root++)
-            for (size_t small = 0; small < 5; small++) {
-                size_t out = (const size_t[]){ REF_OUT, REF_OUT - 1, 39, 0, REF_OUT + 500 }[small];
-                bool form = kind >= 1 && kind <= 3 && root == 32;
+    for (uint32_t kind = SEND; kind <= ECHO; kind++)
+        for (size_t nodes = 0; nodes <= 6; nodes++) {
+            CHECK(writes(check_writer(kind, data, 32, data, 32 * nodes, data, 0, REF_OUT), (fault){ 24, 37 + 32 * nodes }));
+            CHECK(writes(check_writer(kind, data, 32, data, 32 * nodes, data, 16389, REF_OUT), (fault){ 24, 37 + 32 * nodes }));
+            CHECK(writes(check_writer(kind, data, 32, data, 32 * nodes + 1, data, 0, REF_OUT), (fault){ 23, 35 }));
+        }
+}
 
-                CHECK(check_writer(kind, data, root, data, 0, data, kind == VOTE ? 0 : 3, out).number
-                      == (out < REF_OUT ? 2 : form ? 0 : 5));
-            }
+static void the_writer_leaves_the_bytes_beyond_the_record(void)
+{
+    random_bytes(data, sizeof data);
+    for (uint32_t kind = SEND; kind <= VOTE; kind++)
+        CHECK(check_writer(kind, data, 32, data, 0, data, kind == VOTE ? 0 : 3, REF_OUT + 500).number == 0);
     CHECK(check_writer(ECHO, data, 32, data, 192, data, 16388, REF_OUT).length == REF_OUT);
     CHECK(check_writer(ECHO, data, 32, data, 192, data, 16388, REF_OUT - 1).number == 2);
     CHECK(check_writer(VOTE, data, 32, data, 0, data, 0, REF_OUT).length == 39);
     CHECK(check_writer(VOTE, data, 32, data, 0, data, 0, REF_OUT - 1).number == 2);
 }
 
-static void parts_above_2_to_the_32_bytes_are_refused_with_5(void)
+static void parts_above_2_to_the_32_bytes_are_refused_with_22_to_24(void)
 {
     size_t more = (size_t)1 << 32, len = more + 65536;
     uint8_t *bytes = vast(len), out[REF_OUT], was[REF_OUT];
+    const struct { uint32_t kind; size_t root, path, fragment; fault right; } cases[] = {
+        { ECHO, more + 32, 32, 5, { 22, ROOT_COUNT_AT } },
+        { ECHO, 32, more + 32, 5, { 23, PATH_COUNT_AT } }, { ECHO, 32, more, 5, { 23, PATH_COUNT_AT } },
+        { ECHO, 32, 32, more + 5, { 24, FRAGMENT_COUNT_AT(1) } }, { VOTE, 32, 0, more, { 24, FRAGMENT_COUNT_AT(0) } },
+        { VOTE, 32, more, 0, { 23, PATH_COUNT_AT } },
+    };
 
     CHECK(bytes != NULL);
     if (bytes == NULL)
         return;
     random_bytes(out, sizeof out);
     memcpy(was, out, sizeof out);
-    CHECK(tumbeliko_write_record(ECHO, bytes, more + 32, data, 32, data, 5, out, REF_OUT).number == 5);
-    CHECK(tumbeliko_write_record(ECHO, data, 32, bytes, more + 32, data, 5, out, REF_OUT).number == 5);
-    CHECK(tumbeliko_write_record(ECHO, data, 32, bytes, more, data, 5, out, REF_OUT).number == 5);
-    CHECK(tumbeliko_write_record(ECHO, data, 32, data, 32, bytes, more + 5, out, REF_OUT).number == 5);
-    CHECK(tumbeliko_write_record(VOTE, data, 32, data, 0, bytes, more, out, REF_OUT).number == 5);
-    CHECK(tumbeliko_write_record(VOTE, data, 32, bytes, more, data, 0, out, REF_OUT).number == 5);
+    for (size_t c = 0; c < sizeof cases / sizeof *cases; c++) {
+        tumbeliko_written got = tumbeliko_write_record(cases[c].kind, bytes, cases[c].root, bytes, cases[c].path,
+                                                       bytes, cases[c].fragment, out, REF_OUT);
+
+        CHECK(got.number == cases[c].right.number && got.offset == cases[c].right.offset && got.length == 0);
+    }
     CHECK(memcmp(out, was, sizeof out) == 0);
     CHECK(tumbeliko_write_record(VOTE, data, 32, data, 0, data, 0, bytes, more + 100).length == 39);
     CHECK(tumbeliko_read_record(bytes, 39).kind == VOTE);
@@ -626,25 +934,61 @@ static void the_sender_looks_in_the_order_1_2_4_13(void)
 /* ---- step: refusals */
 
 /* The faults of a step in the order in which it looks: a state under 4,608
- * bytes first. Each may be there in several ways. */
+ * bytes first. Each may be there in several ways. The number of a record that
+ * is not of the form goes by the way. */
 enum { TINY, NOT_SOUND, SHORT, NO_BOARD, BAD_FORM, NO_SENDER, LONG, LATE, SECOND, FAULTS };
-static const uint32_t fault_number[FAULTS] = { 2, 3, 2, 4, 5, 6, 7, 8, 9 };
-static const int fault_ways[FAULTS] = { 3, UNSOUND, 5, 5, 6, 2, 2, 2, 1 };
+static const uint32_t fault_number[FAULTS] = { 2, 3, 2, 4, 0, 6, 7, 8, 9 };
+static const int fault_ways[FAULTS] = { 3, UNSOUND, 5, 5, 9, 2, 2, 2, 1 };
+
+/* Spoils the record's form in that way. Answers what it is refused with. */
+static fault spoil_form(int way, uint32_t kind, size_t *len)
+{
+    size_t nodes = record[PATH_COUNT_AT + 1], whole = *len;
+
+    switch (way) {
+    case 0:
+        record[(*len)++] = 0;
+        return (fault){ 25, whole };
+    case 1:
+        (*len)--;
+        return (fault){ 20, kind == VOTE ? FRAGMENT_COUNT_AT(0) : FRAGMENT_AT(nodes) };
+    case 2:
+        record[KIND_AT] = 0;
+        return (fault){ 21, KIND_AT };
+    case 3:
+        record[KIND_AT] = (uint8_t)(kind + 3);
+        return (fault){ 21, KIND_AT };
+    case 4:
+        *len = 0;
+        return (fault){ 20, KIND_AT };
+    case 5:
+        put_count(record + ROOT_COUNT_AT, 31);
+        return (fault){ 22, ROOT_COUNT_AT };
+    case 6:
+        put_count(record + PATH_COUNT_AT, 7);
+        return (fault){ 23, PATH_COUNT_AT };
+    case 7:
+        put_count(record + FRAGMENT_COUNT_AT(nodes), 16389);
+        return (fault){ 24, FRAGMENT_COUNT_AT(nodes) };
+    default:
+        *len = PATH_AT - 1;
+        return (fault){ 20, PATH_COUNT_AT };
+    }
+}
 
 /* Tries a record of that kind with these faults, fault f in the way ways[f]
  * where bit f is set, and says if the refusal is that of the first. */
 static void try_faults(uint32_t kind, unsigned faults, const int *ways)
 {
     table b = make_table(4, 1, 2, 16);
-    uint32_t from = 2, number = 0;
+    uint32_t from = 2;
+    fault right = { 0, 0 };
     size_t out = REF_OUT, delivery = 16, len, state;
     const tree *one = &work.trees[0];
+    ref_stepped did;
 
     begin(b, 1, 9);
     state = work.len;
-    for (int f = FAULTS - 1; f >= 0; f--)
-        if (faults >> f & 1)
-            number = fault_number[f];
     if (faults >> NO_SENDER & 1)
         from = ways[NO_SENDER] ? 1 : 4;
     len = tree_record(one, kind, kind == SEND ? 1 : from, record);
@@ -670,15 +1014,9 @@ static void try_faults(uint32_t kind, unsigned faults, const int *ways)
             set_flags(work.state[ACQUIRED], 1, 1, 1);
         }
     }
-    if (faults >> BAD_FORM & 1)
-        switch (ways[BAD_FORM]) {
-        case 0: record[len++] = 0; break;
-        case 1: len--; break;
-        case 2: record[0] = 0; break;
-        case 3: record[0] = (uint8_t)(kind + 3); break;
-        case 4: len = 0; break;
-        case 5: record[2] = 31; break;
-        }
+    for (int f = FAULTS - 1; f >= 0; f--)
+        if (faults >> f & 1)
+            right = f == BAD_FORM ? spoil_form(ways[f], kind, &len) : (fault){ fault_number[f], 0 };
     if (faults >> NO_BOARD & 1)
         from = (const uint32_t[]){ 0, 5, 256 + 2, 0xffffffff, 0x80000002 }[ways[NO_BOARD]];
     if (faults >> NOT_SOUND & 1)
@@ -693,7 +1031,8 @@ static void try_faults(uint32_t kind, unsigned faults, const int *ways)
         }
     if (faults >> TINY & 1)
         state = (const size_t[]){ HEAD - 1, 34, 0 }[ways[TINY]];
-    CHECK(check_step_with(work.state, state, from, record, len, out, delivery).number == number);
+    did = check_step_with(work.state, state, from, record, len, out, delivery);
+    CHECK(did.number == right.number && did.offset == right.offset);
 }
 
 /* Which faults a record of a kind may have. */
@@ -714,7 +1053,7 @@ static void each_fault_of_a_step_is_refused_with_its_number(void)
     }
 }
 
-static void of_every_pair_of_faults_a_step_answers_the_first_in_the_order_3_2_4_5_6_7_8_9(void)
+static void of_every_pair_of_faults_a_step_answers_the_first_in_the_order_3_2_4_20_to_25_6_7_8_9(void)
 {
     for (uint32_t kind = SEND; kind <= VOTE; kind++)
         for (int f = 0; f < FAULTS; f++)
@@ -743,6 +1082,52 @@ static void of_all_faults_together_a_step_answers_the_first(void)
             if (may)
                 try_faults(kind, faults, ways);
         }
+}
+
+/* Hands over the first `len` bytes in `record`, again and again to the same
+ * board: a record that cannot be read is refused as the reader refuses it. */
+static void check_read_by_step(const uint8_t *sound, uint32_t from, size_t len)
+{
+    ref_parts read = check_reader(record, len);
+    ref_stepped did;
+
+    memcpy(work.state, sound, work.len);
+    did = check_step(from, record, len);
+    if (read.number != 0)
+        CHECK(did.number == read.number && did.offset == read.offset);
+    else
+        CHECK(!ref_form_fault(did.number) && did.offset == 0);
+}
+
+/* Cuts of a record, and other kinds and counts in it. */
+static void a_step_names_the_field_at_fault_as_the_reader_does(void)
+{
+    static uint8_t sound[ROOM];
+
+    forget_what_was_seen();
+    for (uint32_t n = 1; n <= 33; n += 16)
+        for (uint32_t kind = SEND; kind <= VOTE; kind++) {
+            uint32_t from = kind == SEND ? 1 : n;
+            size_t len, nodes;
+
+            begin(make_table(n, (n - 1) / 3, 1, 30), n, 21);
+            memcpy(sound, work.state, work.len);
+            len = tree_record(&work.trees[0], kind, kind == SEND ? n : from, record);
+            nodes = record[PATH_COUNT_AT + 1];
+            for (size_t cut = 0; cut <= len + 3; cut++)
+                check_read_by_step(sound, from, cut);
+            for (uint32_t which = 0; which < NUMBER_BYTES; which++) {
+                uint8_t *byte = record + number_byte(nodes, which), was = *byte;
+
+                for (uint32_t other = 0; other < 256; other++) {
+                    *byte = (uint8_t)other;
+                    check_read_by_step(sound, from, len);
+                }
+                *byte = was;
+            }
+        }
+    for (uint32_t number = REF_FORM_FIRST; number <= REF_FORM_LAST; number++)
+        CHECK(refusals[number] > 20);
 }
 
 static void a_state_under_4608_bytes_gives_2_at_once(void)
@@ -785,13 +1170,15 @@ static void lengths_above_2_to_the_32_are_no_shorter_for_it(void)
 {
     size_t more = (size_t)1 << 32, len;
     uint8_t *bytes = vast(more + 70000);
+    tumbeliko_stepped did;
 
     CHECK(bytes != NULL);
     if (bytes == NULL)
         return;
     begin(make_table(4, 1, 2, 16), 1, 9);
     len = tree_record(&work.trees[0], ECHO, 1, bytes);
-    CHECK(tumbeliko_step(work.state, work.len, 1, bytes, more + len, old_out, REF_OUT, old_delivery, 16).number == 5);
+    did = tumbeliko_step(work.state, work.len, 1, bytes, more + len, old_out, REF_OUT, old_delivery, 16);
+    CHECK(did.number == 25 && did.offset == len);
     tree_record(&work.trees[0], ECHO, 1, record);
     memcpy(bytes, work.state, work.len);
     CHECK(tumbeliko_step(bytes, more, 1, record, len, old_out, REF_OUT, old_delivery, 16).number == 0);
@@ -929,8 +1316,13 @@ static void a_path_count_wrong_for_n_uses_a_send_up_and_leaves_an_echo_unusable(
 static void a_refused_send_is_not_used_up(void)
 {
     begin(make_table(4, 1, 2, 16), 1, 9);
-    random_bytes(data, 100);
-    CHECK(check_step(2, data, 30).number == 5);
+    random_bytes(data, 300);
+    for (int way = 0; way < fault_ways[BAD_FORM]; way++) {
+        size_t len = tree_record(&work.trees[0], SEND, 1, record);
+        fault right = spoil_form(way, SEND, &len);
+
+        CHECK(check_step(2, record, len).number == right.number);
+    }
     ref_write_record(SEND, data, 32, data, 64, data, work.s_max + 1, record, REF_OUT);
     CHECK(check_step(2, record, 39 + 64 + work.s_max + 1).number == 7);
     CHECK(hand(&work.trees[0], SEND, 3).number == 6);
@@ -1053,7 +1445,7 @@ static void the_message_is_delivered_once_k_usable_echoes_name_the_root(void)
 static void an_empty_message_is_delivered_as_a_message(void)
 {
     for (uint32_t n = 1; n <= 13; n++) {
-        ref_stepped did = { 0, 0, 0, 0 };
+        ref_stepped did = { 0, 0, 0, 0, 0 };
 
         begin(make_table(n, (n - 1) / 3, 1, n % 2 ? 0 : 30), 1, 0);
         open_output_stage(work.trees[0].root);
@@ -1070,7 +1462,7 @@ static void lies_of_manner(int manner, int times)
     unsigned voids = 0;
 
     for (int i = 0; i < times; i++) {
-        ref_stepped did = { 0, 0, 0, 0 };
+        ref_stepped did = { 0, 0, 0, 0, 0 };
         uint32_t first;
 
         begin_random(13, 60);
@@ -1096,7 +1488,7 @@ static void other_bytes_after_the_message_are_not_looked_at_if_the_fresh_root_is
     unsigned padded = 0;
 
     for (int i = 0; i < 200; i++) {
-        ref_stepped did = { 0, 0, 0, 0 };
+        ref_stepped did = { 0, 0, 0, 0, 0 };
 
         begin_random(13, 60);
         grow_tree(&work.trees[1], work.b, PADDED_TREE, work.message, work.message_len);
@@ -1120,7 +1512,7 @@ static void only_the_k_lowest_usable_echoes_are_rebuilt_from(void)
 
     for (int i = 0; i < 400; i++) {
         uint32_t n, spoilt;
-        ref_stepped did = { 0, 0, 0, 0 };
+        ref_stepped did = { 0, 0, 0, 0, 0 };
 
         begin_random(13, 60);
         n = work.b.n;
@@ -1151,7 +1543,7 @@ static void only_the_k_lowest_usable_echoes_are_rebuilt_from(void)
 static void unusable_echoes_are_not_rebuilt_from(void)
 {
     for (int i = 0; i < 100; i++) {
-        ref_stepped did = { 0, 0, 0, 0 };
+        ref_stepped did = { 0, 0, 0, 0, 0 };
 
         begin_random(13, 60);
         if (work.b.t == 0)
@@ -1268,8 +1660,9 @@ static void sound_states_of_every_stage_take_any_record_as_the_reference_does(vo
             check_step(from, record, len);
         }
     }
-    for (uint32_t number = 4; number <= 9; number++)
-        CHECK(refusals[number] > 50);
+    for (uint32_t number = 4; number < REF_NUMBERS; number++)
+        if (number == 4 || (number >= 6 && number <= 9) || ref_form_fault(number))
+            CHECK(refusals[number] > 50);
     CHECK(refusals[0] > 1000 && put_out[ECHO] > 50 && put_out[VOTE] > 50);
     CHECK(deliveries[MESSAGE] > 50 && deliveries[VOID] > 50);
 }
@@ -1306,7 +1699,7 @@ static ref_stepped step_beside(uint8_t *state, ref_board *twin, uint32_t from, c
     ref_stepped did = check_step_with(state, state_len, from, bytes, len, REF_OUT, twin->table.longest), right;
 
     right = ref_step(twin, state_len, from, bytes, len, twin_out, REF_OUT, twin_delivery, sizeof twin_delivery);
-    CHECK(did.number == right.number && did.record_length == right.record_length);
+    CHECK(did.number == right.number && did.offset == right.offset && did.record_length == right.record_length);
     CHECK(did.delivery == right.delivery && did.message_length == right.message_length);
     CHECK(memcmp(new_out, twin_out, right.record_length) == 0);
     CHECK(memcmp(new_delivery, twin_delivery, right.message_length) == 0);
@@ -1394,23 +1787,30 @@ static void sixty_four_boards_go_record_by_record_as_the_reference_s(void)
 }
 
 static const test reader_tests[] = {
-    TEST(every_prefix_of_a_record_is_refused_with_5),
-    TEST(every_damage_of_one_byte_is_judged_as_the_reference_judges_it),
-    TEST(kinds_0_and_4_to_255_are_refused_with_5),
-    TEST(path_count_6_is_read_and_7_refused_with_5),
-    TEST(fragments_of_1_to_16388_bytes_are_read_and_others_refused_with_5),
-    TEST(a_vote_with_a_path_or_a_fragment_is_refused_with_5),
-    TEST(a_root_count_other_than_32_is_refused_with_5),
+    TEST(the_header_names_the_numbers_and_the_places),
+    TEST(every_cut_is_20_at_the_field_of_the_first_missing_byte_and_more_bytes_are_25),
+    TEST(every_cut_of_the_longest_record_and_cuts_of_other_long_ones_are_20_too),
+    TEST(cuts_stated_one_by_one),
+    TEST(every_change_of_one_byte_is_judged_as_the_reference_judges_it),
+    TEST(changes_of_one_byte_of_long_records_are_judged_as_the_reference_judges_them),
+    TEST(of_several_faults_the_first_field_counts),
+    TEST(kinds_0_and_4_to_255_are_refused_with_21_whatever_follows),
+    TEST(path_count_6_is_read_and_7_refused_with_23),
+    TEST(fragments_of_1_to_16388_bytes_are_read_and_others_refused_with_24),
+    TEST(a_vote_with_a_path_is_refused_with_23_and_with_a_fragment_alone_with_24),
+    TEST(a_root_count_other_than_32_is_refused_with_22),
     TEST(random_strings_are_judged_as_the_reference_judges_them),
-    TEST(a_record_above_2_to_the_32_bytes_is_refused_with_5),
+    TEST(a_record_above_2_to_the_32_bytes_is_refused_with_25),
 };
 
 static const test writer_tests[] = {
     TEST(what_is_written_is_read_back),
     TEST(what_is_read_is_what_would_be_written),
-    TEST(parts_that_no_record_has_are_refused_with_5),
-    TEST(the_writer_looks_in_the_order_2_5_and_leaves_the_bytes_beyond),
-    TEST(parts_above_2_to_the_32_bytes_are_refused_with_5),
+    TEST(parts_that_no_record_has_are_refused_with_21_to_24),
+    TEST(the_writer_looks_in_the_order_2_21_22_23_24),
+    TEST(a_refused_fragment_is_named_after_the_path_that_would_stand_before_it),
+    TEST(the_writer_leaves_the_bytes_beyond_the_record),
+    TEST(parts_above_2_to_the_32_bytes_are_refused_with_22_to_24),
 };
 
 static const test start_tests[] = {
@@ -1431,8 +1831,9 @@ static const test send_tests[] = {
 
 static const test refusal_tests[] = {
     TEST(each_fault_of_a_step_is_refused_with_its_number),
-    TEST(of_every_pair_of_faults_a_step_answers_the_first_in_the_order_3_2_4_5_6_7_8_9),
+    TEST(of_every_pair_of_faults_a_step_answers_the_first_in_the_order_3_2_4_20_to_25_6_7_8_9),
     TEST(of_all_faults_together_a_step_answers_the_first),
+    TEST(a_step_names_the_field_at_fault_as_the_reader_does),
     TEST(a_state_under_4608_bytes_gives_2_at_once),
     TEST(a_step_needs_its_buffers_and_leaves_the_bytes_beyond),
     TEST(lengths_above_2_to_the_32_are_no_shorter_for_it),

@@ -27,7 +27,7 @@ static const size_t needed[BUFFERS] = {
 static uint8_t lent[BUFFERS][BEYOND + DRILL_TEXT + BEYOND], before[BUFFERS][BEYOND + DRILL_TEXT + BEYOND];
 static char expected[REF_TEXT];
 static size_t expected_len;
-static unsigned long inputs, answers[16], messages, empties, voids;
+static unsigned long inputs, answers[REF_NUMBERS], messages, empties, voids;
 
 static void fill(void)
 {
@@ -178,6 +178,10 @@ static void add_lie(ref_table table, uint32_t from, uint32_t to)
             flip_a_bit(record, len);
         if (random_below(12) == 0 && len + 1 < 500)
             record[len++] = 0;
+        if (random_below(12) == 0)
+            len = random_below((uint32_t)len);
+        if (random_below(8) == 0)
+            change_a_number(record, len);
     }
     add_raw(from, to, record, len < 500 ? len : 500);
 }
@@ -297,7 +301,7 @@ static void a_fragment_above_s_max_is_7(void)
     static const uint8_t root[32], fragment[8];
 
     for (size_t len = 1; len <= 4; len++) {
-        ref_sized written = ref_write_record(2, root, 32, root, 0, fragment, len, record, sizeof record);
+        ref_written written = ref_write_record(2, root, 32, root, 0, fragment, len, record, sizeof record);
 
         script_len = 0;
         add("4 1 1 0\n1 3\n0\n1\n");
@@ -306,6 +310,38 @@ static void a_fragment_above_s_max_is_7(void)
         count_lines();
         CHECK(strstr(expected, len <= 2 ? "\n1 r 3 1 0 - -\n" : "\n1 r 3 1 7 - -\n") != NULL);
     }
+}
+
+/* Raw bytes with each fault of the form, each printed by its number alone. A
+ * record refused is not used up: the vote itself is taken after them all. */
+static void every_fault_of_a_record_is_printed_by_its_number(void)
+{
+    static const char vote[] =
+        "030020000102030405060708090a0b0c0d0e0f101112131415161718191a1b1c1d1e1f00000000";
+    static const struct { int len; size_t at; const char *digits; unsigned answer; } cases[] = {
+        { 2, 0, "03", 20 }, { 4, 0, "03", 20 }, { 6, 0, "03", 20 }, { 68, 0, "03", 20 }, { 70, 0, "03", 20 },
+        { 72, 0, "03", 20 }, { 74, 0, "03", 20 }, { 76, 0, "03", 20 },
+        { 2, 0, "00", 21 }, { 78, 0, "04", 21 }, { 78, 0, "ff", 21 },
+        { 6, 4, "1f", 22 }, { 78, 2, "01", 22 }, { 78, 4, "21", 22 },
+        { 74, 72, "07", 23 }, { 78, 72, "01", 23 }, { 78, 70, "01", 23 },
+        { 78, 76, "01", 24 }, { 78, 74, "ff", 24 }, { 78, 0, "02", 24 },
+        { 78, 0, "03", 0 }, { 78, 0, "03", 9 },
+    };
+    char lines[2000];
+    int at = 0;
+    size_t count = sizeof cases / sizeof *cases;
+
+    script_len = (size_t)sprintf(script, "4 1 1 16\n1 3\n0\n%zu\nr 3 2\nr 3 2 %s00\n", count + 2, vote);
+    at += sprintf(lines, "1 r 3 2 20 - -\n2 r 3 2 25 - -\n");
+    for (size_t c = 0; c < count; c++) {
+        char bytes[sizeof vote];
+
+        strcpy(bytes, vote);
+        memcpy(bytes + cases[c].at, cases[c].digits, 2);
+        script_len += (size_t)sprintf(script + script_len, "r 3 2 %.*s\n", cases[c].len, bytes);
+        at += sprintf(lines + at, "%zu r 3 2 %u - -\n", c + 3, cases[c].answer);
+    }
+    CHECK(prints(script, lines));
 }
 
 /* A lying sender whose fragments are no block's, or no readable block's:
@@ -426,7 +462,7 @@ static void the_limits(void)
         for (size_t i = 0; i < hex; i++)
             add("0");
         drill_text(script);
-        CHECK(hex == 1018 ? strstr(expected, "\n1 r 3 2 5 - -\n") != NULL : ends_bad(5));
+        CHECK(hex == 1018 ? strstr(expected, "\n1 r 3 2 21 - -\n") != NULL : ends_bad(5));
     }
 }
 
@@ -473,15 +509,18 @@ static void short_buffers_are_2(void)
 
 static void generated_right_inputs(void)
 {
+    static const int can_be_printed[] = { 0, 6, 7, 8, 9, 14, 20, 21, 22, 23, 24, 25 };
+
     for (int turn = 0; turn < 600; turn++) {
         write_script();
         drill(script, script_len);
         count_lines();
     }
-    CHECK(answers[0] > 0 && answers[5] > 0 && answers[6] > 0 && answers[7] > 0 && answers[8] > 0 && answers[9] > 0 && answers[14] > 0);
+    for (size_t i = 0; i < sizeof can_be_printed / sizeof *can_be_printed; i++)
+        CHECK(answers[can_be_printed[i]] > 0);
     CHECK(messages > 0 && empties > 0 && voids > 0);
     printf("answers");
-    for (int i = 0; i < 16; i++)
+    for (int i = 0; i < REF_NUMBERS; i++)
         if (answers[i] > 0)
             printf(" %d: %lu", i, answers[i]);
     printf("; %lu messages, %lu empty, %lu void\n", messages, empties, voids);
@@ -528,7 +567,8 @@ static void how_many_inputs(void)
 
 static const test by_hand[] = {
     TEST(the_example_of_the_paper), TEST(an_empty_message_is_m), TEST(what_was_not_put_out_is_14), TEST(empty_and_short_inputs),
-    TEST(every_message_length), TEST(a_fragment_above_s_max_is_7), TEST(a_lying_sender_is_void),
+    TEST(every_message_length), TEST(a_fragment_above_s_max_is_7), TEST(every_fault_of_a_record_is_printed_by_its_number),
+    TEST(a_lying_sender_is_void),
 };
 
 static const test bad_lines[] = { TEST(every_damage_at_every_line), TEST(wrong_lines) };

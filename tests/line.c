@@ -42,7 +42,7 @@ enum { OUTPUT = 8, DONE = 9 };  /* where a state has these flags */
 
 /* ---- what is counted */
 
-static unsigned long runs_wanted = RUNS, runs, steps, messages, voids, silent, refusals[16], accepted[4];
+static unsigned long runs_wanted = RUNS, runs, steps, messages, voids, silent, refusals[REF_NUMBERS], accepted[4];
 static unsigned long mailboxes, mailed, with_both, with_delivery;       /* mailboxes, their items, what came of them */
 
 /* ---- one run */
@@ -116,11 +116,24 @@ static void hand_in(uint32_t from, uint32_t to, const uint8_t *bytes, size_t len
 
 static uint8_t was_out[REF_OUT], was_vote[REF_VOTE], was_answers[MOST_MAIL], was_delivery[LONGEST];
 
+/* The numbers that a record may be refused with here, in the order in which a
+ * step looks: boards' numbers are right, buffers long enough, states sound. */
+static const uint32_t numbers[] = { 20, 21, 22, 23, 24, 25, 6, 7, 8, 9 };
+#define NUMBERS (sizeof numbers / sizeof *numbers)
+
+static bool may_be_refused_with(uint32_t number)
+{
+    for (size_t i = 0; i < NUMBERS; i++)
+        if (numbers[i] == number)
+            return true;
+    return false;
+}
+
 /* The number that a record got from a board in the state `before`. */
 static void note_answer(letter one, const uint8_t *before, uint32_t number)
 {
-    CHECK(held(number == 0 || (number >= 5 && number <= 9)));
-    refusals[number & 15]++;
+    CHECK(held(number == 0 || may_be_refused_with(number)));
+    refusals[number % REF_NUMBERS]++;
     if (one.genuine) {
         bool late = before[DONE] != 0 || (one.bytes[0] == SEND && before[OUTPUT] != 0);
 
@@ -128,6 +141,18 @@ static void note_answer(letter one, const uint8_t *before, uint32_t number)
     }
     if (number == 0)
         accepted[one.bytes[0] & 3]++;
+}
+
+/* A record that cannot be read is refused as the reader refuses it, and no
+ * other answer has an offset. */
+static void note_offset(letter one, tumbeliko_stepped did)
+{
+    ref_parts read = ref_read_record(one.bytes, one.len);
+
+    if (read.number != 0)
+        CHECK(held(did.number == read.number && did.offset == read.offset));
+    else
+        CHECK(held(!ref_form_fault(did.number) && did.offset == 0));
 }
 
 static void note_state(const member *m, const uint8_t *before)
@@ -204,6 +229,7 @@ static void take(letter one)
     CHECK(held(stays(delivery, was_delivery, did.message_length, b.longest)));
     note_state(m, before);
     note_answer(one, before, did.number);
+    note_offset(one, did);
     if (did.number != 0) {
         CHECK(held(did.record_length == 0 && did.delivery == NONE && did.message_length == 0));
         CHECK(held(memcmp(m->state, before, m->needed) == 0));
@@ -236,6 +262,7 @@ static void compare_with_steps(const letter *mail, size_t count, uint8_t *state,
         note_answer(mail[i], state, left.answers[i]);
         alone = tumbeliko_step(state, m->len, mail[i].from, mail[i].bytes, mail[i].len, out, REF_OUT,
                                delivery, b.longest);
+        note_offset(mail[i], alone);
         CHECK(held(alone.number == left.answers[i]));
         if (alone.record_length > 0 && out[0] == ECHO) {
             sum.echo_length = alone.record_length;
@@ -306,7 +333,7 @@ static void lie(uint32_t from)
     const letter *old = &post[posted == 0 ? 0 : random_below((uint32_t)posted)];
     size_t len = 0;
 
-    switch (random_below(posted == 0 ? 7 : 11)) {
+    switch (random_below(posted == 0 ? 7 : 12)) {
     case 0:
     case 1:
         len = tree_record(&trees[which], VOTE, from, record);
@@ -349,6 +376,11 @@ static void lie(uint32_t from)
             len = random_below((uint32_t)len + 1);
         else
             random_bytes(record + len, 40), len += random_below(40);
+        break;
+    case 11:                                    /* the same, with another kind or count */
+        len = old->len;
+        memcpy(record, old->bytes, len);
+        change_a_number(record, len);
         break;
     }
     hand_in(from, to, keep(record, len), len, false);
@@ -576,8 +608,8 @@ static void show_figures(void)
 {
     printf("%8lu runs, %lu steps, %lu messages, %lu voids, %lu runs in which nobody delivered; refused", runs, steps,
            messages, voids, silent);
-    for (int number = 5; number <= 9; number++)
-        printf(" %d: %lu%s", number, refusals[number], number < 9 ? "," : "\n");
+    for (size_t i = 0; i < NUMBERS; i++)
+        printf(" %u: %lu%s", numbers[i], refusals[numbers[i]], i + 1 < NUMBERS ? "," : "\n");
     fflush(stdout);
 }
 
@@ -622,7 +654,7 @@ LINE(13, 4, 80)
 LINE(64, 0, 1)
 LINE(64, 21, 2)
 
-static void messages_voids_mailboxes_and_refusals_5_to_9_were_seen(void)
+static void messages_voids_mailboxes_and_every_refusal_of_a_record_were_seen(void)
 {
     static const char *const kinds[] = { "", "sends", "echoes", "votes" };
 
@@ -637,8 +669,8 @@ static void messages_voids_mailboxes_and_refusals_5_to_9_were_seen(void)
         return;
     CHECK(voids > 0 && silent > 0);
     CHECK(mailed > mailboxes + mailboxes / 2 && with_both > 0 && with_delivery > 0);
-    for (int number = 5; number <= 9; number++)
-        CHECK(refusals[number] > 0);
+    for (size_t i = 0; i < NUMBERS; i++)
+        CHECK(refusals[numbers[i]] > 0);
 }
 
 static const test small_tests[] = {
@@ -664,7 +696,7 @@ static const test full_tests[] = {
 };
 
 static const test seen_tests[] = {
-    TEST(messages_voids_mailboxes_and_refusals_5_to_9_were_seen),
+    TEST(messages_voids_mailboxes_and_every_refusal_of_a_record_were_seen),
 };
 
 int main(int argc, char **argv)

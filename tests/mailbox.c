@@ -1,6 +1,7 @@
 /*
  * The call that takes a whole mailbox, against the reference, against single
- * steps of the library, and against the sentences of request 1 of document 02.
+ * steps of the library, and against the sentences of requests 1 and 2 of
+ * document 02.
  *
  * Every call is made with each buffer before an inaccessible page and again
  * with each buffer after one. The reference makes the same call on copies;
@@ -58,7 +59,7 @@ static size_t count_of(const uint8_t *mailbox)
 /* ---- the same call by the library and by the reference */
 
 /* how often each number, answer, record and delivery was seen in a test */
-static unsigned long refusals[17], answered[10], echoes, votes, both, deliveries[3], all_three;
+static unsigned long refusals[REF_NUMBERS], answered[REF_NUMBERS], echoes, votes, both, deliveries[3], all_three;
 
 static void forget_what_was_seen(void)
 {
@@ -695,10 +696,10 @@ static void the_longest_mailbox_is_taken(void)
                                                  old.vote, REF_VOTE, old.delivery, 16);
 
         CHECK(got.number == (other == whole ? 0 : 16));
-        CHECK(answers[0] == (other < whole ? 77 : 5) && answers[255] == 77);
+        CHECK(answers[0] == (other < whole ? 77 : 25) && answers[255] == 77);
     }
     for (uint32_t i = 0; i < 255; i++)
-        CHECK(answers[i] == (1 + i % 16 > 13 ? 4 : 5));
+        CHECK(answers[i] == (1 + i % 16 > 13 ? 4 : 25));
     give_back_vast(bytes, whole + 3);
 }
 
@@ -741,8 +742,10 @@ static void a_board_byte_0_or_above_n_is_that_item_s_4(void)
         }
 }
 
-static void a_malformed_record_is_that_item_s_5_and_the_others_go_on(void)
+static void a_malformed_record_is_that_item_s_20_to_25_and_the_others_go_on(void)
 {
+    static const uint8_t right[5] = { 20, 20, 0, 25, 21 };
+
     for (uint32_t n = 1; n <= 13; n++) {
         begin(make_table(n, (n - 1) / 3, 1, 16), n, 9);
         empty_box();
@@ -753,36 +756,116 @@ static void a_malformed_record_is_that_item_s_5_and_the_others_go_on(void)
             post(from, record, len - 1);
             post(from, record, len);
             post(from, record, len + 1);
-            record[0] = 4;
+            record[KIND_AT] = 4;
             post(from, record, len);
         }
         CHECK(mail().number == 0);
         for (uint32_t i = 0; i < 5 * n; i++)
-            CHECK(new.answers[i] == (i % 5 == 2 ? 0 : 5));
+            CHECK(new.answers[i] == right[i % 5]);
     }
 }
 
-/* An item that a board in any stage refuses with 4, 5, 6 or 7. */
+/* The answers to all that was posted, none of which changes the board, are
+ * the reader's numbers. Empties the box. */
+static void check_answers_of_reader(void)
+{
+    const uint8_t *at = box + 2;
+
+    CHECK(mail().number == 0);
+    for (size_t i = 0; i < items(); i++) {
+        uint8_t from;
+        size_t len;
+        const uint8_t *bytes = read_item(at, &from, &len);
+
+        CHECK(new.answers[i] == ref_read_record(bytes, len).number);
+        at = bytes + len;
+    }
+    empty_box();
+}
+
+static void every_cut_is_20_and_another_kind_or_count_is_what_the_reader_says(void)
+{
+    forget_what_was_seen();
+    for (uint32_t kind = SEND; kind <= VOTE; kind++) {
+        size_t len, nodes;
+
+        begin(make_table(4, 1, 2, 16), 1, 9);
+        empty_box();
+        len = tree_record(&work.trees[0], kind, 1, record);
+        nodes = record[PATH_COUNT_AT + 1];
+        for (size_t cut = 0; cut < len; cut++)
+            post(2, record, cut);
+        CHECK(items() == len);
+        CHECK(mail().number == 0);
+        for (size_t i = 0; i < len; i++)
+            CHECK(new.answers[i] == 20);
+        for (size_t more = 1; more <= 9; more++)
+            post(2, record, len + more);
+        check_answers_of_reader();
+        for (uint32_t which = 0; which < NUMBER_BYTES; which++) {
+            uint8_t *byte = record + number_byte(nodes, which), was = *byte;
+
+            for (uint32_t other = 0; other < 256; other++) {
+                *byte = (uint8_t)other;
+                if (ref_read_record(record, len).number != 0)
+                    post(2, record, len);
+            }
+            *byte = was;
+            check_answers_of_reader();
+        }
+    }
+    for (uint32_t number = REF_FORM_FIRST; number <= REF_FORM_LAST; number++)
+        CHECK(answered[number] > 10);
+    CHECK(answered[0] == 0);
+}
+
+/* The numbers that an item can get from a board in any stage. */
+static const uint8_t refused_numbers[] = { 4, 20, 21, 22, 23, 24, 25, 6, 7 };
+enum { REFUSED = sizeof refused_numbers };
+
 static void post_refused(uint32_t number)
 {
     const tree *one = &work.trees[0];
+    size_t len = tree_record(one, VOTE, 1, record);
 
-    if (number == 4)
-        post(work.b.n + 1, record, tree_record(one, VOTE, 1, record));
-    else if (number == 5)
-        post(1, record, random_below(30));
-    else if (number == 6)
+    switch (number) {
+    case 4:
+        post(work.b.n + 1, record, len);
+        return;
+    case 6:
         post(1 + work.b.sender % work.b.n, record, tree_record(one, SEND, work.own, record));
-    else
+        return;
+    case 7:
         post(1, record, ref_write_record(ECHO, one->root, 32, one->paths, 64, work.message, work.s_max + 1,
                                          record, REF_OUT).length);
+        return;
+    case 20:
+        len = random_below(39);
+        break;
+    case 21:
+        record[KIND_AT] = 0;
+        break;
+    case 22:
+        record[ROOT_COUNT_AT + 1] = 31;
+        break;
+    case 23:
+        record[PATH_COUNT_AT + 1] = 1;
+        break;
+    case 24:
+        record[FRAGMENT_COUNT_AT(0) + 1] = 1;
+        break;
+    default:
+        len++;
+    }
+    post(1, record, len);
 }
 
 /* A refused item before, between and after the items of a whole broadcast. */
 static void a_refused_item_anywhere_leaves_the_others_as_they_are(void)
 {
-    for (uint32_t number = 4; number <= 7; number++)
+    for (int which = 0; which < REFUSED; which++)
         for (size_t where = 0; where <= 9; where++) {
+            uint32_t number = refused_numbers[which];
             ref_mailed did;
             size_t at = 0;
 
@@ -925,10 +1008,10 @@ static void every_item_refused_is_no_refusal_of_the_call(void)
     begin(make_table(4, 1, 2, 16), 1, 15);
     empty_box();
     for (uint32_t i = 0; i < 200; i++)
-        post_refused(4 + i % 4);
+        post_refused(refused_numbers[i % REFUSED]);
     CHECK(mail().number == 0);
     for (uint32_t i = 0; i < 200; i++)
-        CHECK(new.answers[i] == 4 + i % 4);
+        CHECK(new.answers[i] == refused_numbers[i % REFUSED]);
     set_flags(1, 1, 1, 1);
     empty_box();
     post_records(&work.trees[0], ECHO, 1, 4);
@@ -949,8 +1032,9 @@ static void sound_states_of_every_stage_take_any_mailbox_as_single_steps_do(void
             CHECK(mail().number == 0);
         }
     }
-    for (uint32_t number = 4; number <= 9; number++)
-        CHECK(answered[number] > 100);
+    for (uint32_t number = 4; number < REF_NUMBERS; number++)
+        if (number == 4 || (number >= 6 && number <= 9) || ref_form_fault(number))
+            CHECK(answered[number] > 100);
     CHECK(answered[0] > 3000 && echoes > 50 && votes > 50 && both > 20 && all_three > 5);
     CHECK(deliveries[MESSAGE] > 50 && deliveries[VOID] > 50);
 }
@@ -1066,7 +1150,8 @@ static const test large_tests[] = {
 
 static const test item_tests[] = {
     TEST(a_board_byte_0_or_above_n_is_that_item_s_4),
-    TEST(a_malformed_record_is_that_item_s_5_and_the_others_go_on),
+    TEST(a_malformed_record_is_that_item_s_20_to_25_and_the_others_go_on),
+    TEST(every_cut_is_20_and_another_kind_or_count_is_what_the_reader_says),
     TEST(a_refused_item_anywhere_leaves_the_others_as_they_are),
     TEST(an_echo_a_vote_and_the_delivery_come_out_of_one_call),
     TEST(each_of_echo_vote_and_delivery_comes_alone_too),

@@ -10,15 +10,16 @@ end=$(($(date +%s) + 60 * minutes))
 times=0
 : > build/soak.sums
 
-# The figures of all seeds so far: the last line of figures of each is in build/soak.sums.
+# The figures of all seeds so far: the last line of figures of each is in build/soak.sums. After those with a name come
+# pairs, a refusal's number and how often it was seen.
 so_far() {
     awk -F '[^0-9]+' -v names='runs,steps,messages,voids,runs in which nobody delivered' '
-        { at = 0; for (i = 1; i <= NF; i++) if ($i != "") sum[++at] += $i }
+        { last = 0; for (i = 1; i <= NF; i++) if ($i != "") { sum[++last] += $i; number[last] = $i } }
         END {
             count = split(names, name, ",")
             for (i = 1; i <= count; i++) printf "%s%d %s", i == 1 ? "" : ", ", sum[i], name[i]
             printf "; refused"
-            for (i = 0; i < 5; i++) printf " %d: %d%s", 5 + i, sum[count + 2 + 2 * i], i < 4 ? "," : "\n"
+            for (i = count + 1; i < last; i += 2) printf " %d: %d%s", number[i], sum[i + 1], i + 1 < last ? "," : "\n"
         }' build/soak.sums
 }
 

@@ -121,10 +121,10 @@ static tumbeliko_parts no_reader(const uint8_t *r, size_t rl)
     return nothing;
 }
 
-static tumbeliko_sized no_writer(uint32_t a, const uint8_t *r, size_t rl, const uint8_t *p, size_t pl,
-                                 const uint8_t *f, size_t fl, uint8_t *o, size_t ol)
+static tumbeliko_written no_writer(uint32_t a, const uint8_t *r, size_t rl, const uint8_t *p, size_t pl,
+                                   const uint8_t *f, size_t fl, uint8_t *o, size_t ol)
 {
-    static const tumbeliko_sized nothing;
+    static const tumbeliko_written nothing;
 
     (void)a, (void)r, (void)rl, (void)p, (void)pl, (void)f, (void)fl, (void)o, (void)ol;
     return nothing;
@@ -173,8 +173,8 @@ static tumbeliko_sized (*volatile rebuild)(uint32_t, uint32_t, uint32_t, uint32_
 static tumbeliko_sized (*volatile read_block)(uint32_t, uint32_t, uint32_t, uint32_t, const uint8_t *, size_t,
                                               uint8_t *, size_t);
 static tumbeliko_parts (*volatile reader)(const uint8_t *, size_t);
-static tumbeliko_sized (*volatile writer)(uint32_t, const uint8_t *, size_t, const uint8_t *, size_t,
-                                          const uint8_t *, size_t, uint8_t *, size_t);
+static tumbeliko_written (*volatile writer)(uint32_t, const uint8_t *, size_t, const uint8_t *, size_t,
+                                            const uint8_t *, size_t, uint8_t *, size_t);
 static uint32_t (*volatile start)(uint32_t, uint32_t, uint32_t, uint32_t, uint32_t, uint8_t *, size_t);
 static tumbeliko_stepped (*volatile step)(uint8_t *, size_t, uint32_t, const uint8_t *, size_t,
                                           uint8_t *, size_t, uint8_t *, size_t);
@@ -446,7 +446,7 @@ static void mailbox_lines(void)
     mailbox_line("nothing", 0, TUMBELIKO_DELIVERY_NONE, LIMIT_MAILBOX);
     while (box[1] < TUMBELIKO_ITEMS_MAX)
         box_len = add_item(box, box_len, 1, record, 38);
-    mailbox_line("refused 5", 5, TUMBELIKO_DELIVERY_NONE, LIMIT_MAILBOX);
+    mailbox_line("refused 20", TUMBELIKO_CUT_OFF, TUMBELIKO_DELIVERY_NONE, LIMIT_MAILBOX);
     post(3, 1, n);
     mailbox_line("votes", 0, TUMBELIKO_DELIVERY_NONE, LIMIT_MAILBOX);
     post(1, 1, 1);
@@ -487,7 +487,7 @@ static void board_lines(void)
     make_record(3, n);
     step_line("vote", LIMIT);
     record_len = 38;
-    step_line("refused 5", LIMIT);
+    step_line("refused 20", LIMIT);
     delivering_lines();
     mailbox_lines();
 }

@@ -229,6 +229,9 @@ size_t random_record(uint32_t from)
             len = ref_write_record(kind, one->root, 32, data, 32 * random_below(7),
                                    one->area + (at - 1) * one->s_max, one->lengths[at - 1], record, REF_OUT).length;
         break;
+    case 5:                                     /* another kind or count */
+        change_a_number(record, len);
+        break;
     }
     return len;
 }

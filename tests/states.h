@@ -75,7 +75,8 @@ enum { UNSOUND = 31 };
 void make_unsound(int way);
 
 /* Something that board `from` might say, into `record`: mostly a record of a
- * tree, at times spoilt. Answers its length. */
+ * tree, at times spoilt, so that each fault of the form comes too. Answers
+ * its length. */
 extern uint8_t record[ROOM];
 size_t random_record(uint32_t from);
 

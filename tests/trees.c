@@ -68,3 +68,20 @@ size_t tree_record(const tree *one, uint32_t kind, uint32_t board, uint8_t *reco
     return ref_write_record(kind, one->root, 32, one->paths + i * 192, 32 * one->nodes[i],
                             one->area + i * one->s_max, one->lengths[i], record, REF_OUT).length;
 }
+
+size_t number_byte(size_t nodes, uint32_t which)
+{
+    const size_t places[NUMBER_BYTES] = { KIND_AT, ROOT_COUNT_AT, ROOT_COUNT_AT + 1, PATH_COUNT_AT, PATH_COUNT_AT + 1,
+                                          FRAGMENT_COUNT_AT(nodes), FRAGMENT_COUNT_AT(nodes) + 1 };
+
+    return places[which];
+}
+
+void change_a_number(uint8_t *record, size_t len)
+{
+    size_t nodes = len > PATH_COUNT_AT + 1 ? record[PATH_COUNT_AT + 1] : 0;
+    size_t at = number_byte(nodes, random_below(NUMBER_BYTES));
+
+    if (at < len)
+        record[at] = (uint8_t)random_below(random_below(2) ? 10 : 256);
+}

@@ -40,4 +40,17 @@ void close_tree(tree *one);
  * echo of it, or a vote for the root. Answers its length. */
 size_t tree_record(const tree *one, uint32_t kind, uint32_t board, uint8_t *record);
 
+/* Where the fields of a record stand, as request 2 of document 02 has them. */
+enum { KIND_AT = 0, ROOT_COUNT_AT = 1, ROOT_AT = 3, PATH_COUNT_AT = 35, PATH_AT = 37 };
+#define FRAGMENT_COUNT_AT(nodes)    (PATH_AT + 32 * (size_t)(nodes))
+#define FRAGMENT_AT(nodes)          (FRAGMENT_COUNT_AT(nodes) + 2)
+
+/* Where the bytes stand that are the kind or a count, in a record with so
+ * many nodes. */
+enum { NUMBER_BYTES = 7 };
+size_t number_byte(size_t nodes, uint32_t which);
+
+/* Another kind or count in a record of that length. */
+void change_a_number(uint8_t *record, size_t len);
+
 #endif
