@@ -9,6 +9,7 @@ SEED    =
 RUNS    =
 FILE    = README.md
 MINUTES = 10
+PREFIX  = /usr/local
 
 # The archive is for x86-64 Linux. Elsewhere its users are built by a cross compiler and run by an emulator
 # (tests/tools.sh installs both), unless LIB names another archive.
@@ -28,6 +29,7 @@ TREES     = tests/trees.c
 STATES    = tests/states.c $(TREES)
 MAIL      = tests/mail.c
 LINE      = $(wildcard examples/line/*.c examples/line/*.h)
+PROGRAM   = $(wildcard tools/*.c tools/*.h)
 FUZZ      = fuzz/fuzz.c fuzz/drawn.c fuzz/ground.c fuzz/board.c fuzz/drill.c
 HEADERS   = include/tumbeliko.h include/drill.h tests/harness.h tests/trees.h tests/states.h tests/mail.h tests/reference/reference.h \
             bench/plain.h bench/clock.h
@@ -40,9 +42,9 @@ KNOWN = $(if $(call have,openssl/sha.h,-lcrypto),-DHAVE_OPENSSL -lcrypto) \
         $(if $(call have,bearssl.h,-lbearssl),-DHAVE_BEARSSL -lbearssl) \
         $(if $(call have,isa-l/erasure_code.h,-lisal),-DHAVE_ISAL -lisal)
 
-.PHONY: help test statement lib demo line-demo drill bench growth stack soak fuzz house clean tools
+.PHONY: help test statement lib demo line-demo drill program install bench growth stack soak fuzz house clean tools
 .PHONY: statement-test library-test header-test reference-test vectors-test ground-test board-test mailbox-test line-test drill-test
-.PHONY: examples-test stack-test
+.PHONY: program-test examples-test stack-test
 
 help:
 	@echo "make test     everything: the prover's gate, then the tests in C against the library"
@@ -52,7 +54,9 @@ help:
 	@echo "make demo     a message cut into fragments and rebuilt; then a file spread over a line of boards while the sender fails, and"
 	@echo "              again while it lies; a picture of each run in build/. FILE=path spreads another file"
 	@echo "make drill    the drill program, build/drill: a script of steps in, a line for each step out"
+	@echo "make program  the program for technicians, build/tumbeliko: what a record holds, or what is wrong with it and where"
 	@echo "make lib      prove the library and write build/libtumbeliko.a"
+	@echo "make install  library, header, program and manual page into PREFIX=/usr/local, below DESTDIR if one is given"
 	@echo "make bench    times beside plain C and known libraries, and the stack of each call"
 	@echo "make growth   how the cost of a call grows with L and n: tables, and the plot docs/growth.svg"
 	@echo "make stack    the stack of each call alone, beside its limit"
@@ -62,7 +66,7 @@ help:
 	@echo "make clean    remove build/ and target/"
 	@echo
 	@echo "one part of the tests: statement-test library-test header-test reference-test vectors-test ground-test"
-	@echo "                       board-test mailbox-test line-test drill-test examples-test stack-test"
+	@echo "                       board-test mailbox-test line-test drill-test program-test examples-test stack-test"
 	@echo "SEED=number   other random bytes for the tests in C"
 	@echo "RUNS=number   how many runs of lines; 20,000 if not given"
 	@echo "LIB=path      another archive"
@@ -125,6 +129,10 @@ build/drill-test: tests/drill.c $(TREES) $(HARNESS) $(REFERENCE) $(HEADERS) $(DR
 build/drill: examples/drill.c include/drill.h $(DRILL) | build $(TOOLS)
 	@echo "building $@ with $(DRILL)"
 	@$(BUILD) examples/drill.c $(DRILL) $(LDFLAGS) -o $@
+
+build/tumbeliko: $(PROGRAM) include/tumbeliko.h $(LIB) | build $(TOOLS)
+	@echo "building $@ with $(LIB)"
+	@$(BUILD) $(filter %.c,$(PROGRAM)) $(LIB) $(LDFLAGS) -o $@
 
 ifeq ($(TOOLS),)
 build/bench: bench/bench.c bench/clock.c bench/plain.c $(MAIL) $(REFERENCE) $(HEADERS) $(LIB) | build
@@ -224,6 +232,10 @@ drill-test: build/drill-test build/drill
 	@printf 'step kind from to answer act outcome\n1 s 1 1 0 e -\n2 e 1 1 0 v -\n3 v 1 1 0 - m41\n' | cmp - build/drill.log
 	@$(RUN) build/drill-test $(SEED)
 
+program-test: build/tumbeliko
+	@$(MAKE) --no-print-directory install DESTDIR="$(CURDIR)/build/installed" PREFIX=/usr
+	@RUN="$(RUN)" LIB="$(LIB)" sh tests/program.sh
+
 examples-test: build/demo build/seven build/line-demo
 	@RUN="$(RUN)" sh tests/examples.sh
 
@@ -271,6 +283,17 @@ house: | build
 
 drill: build/drill
 	@echo "the drill program is build/drill: it reads a drill from standard input$(if $(RUN), (run it by $(RUN)))"
+
+program: build/tumbeliko
+	@echo "the program is build/tumbeliko$(if $(RUN), (run it by $(RUN))), its manual page tools/tumbeliko.1"
+
+install: build/tumbeliko
+	@mkdir -p "$(DESTDIR)$(PREFIX)/bin" "$(DESTDIR)$(PREFIX)/lib" "$(DESTDIR)$(PREFIX)/include" "$(DESTDIR)$(PREFIX)/share/man/man1"
+	@install -m 755 build/tumbeliko "$(DESTDIR)$(PREFIX)/bin/tumbeliko"
+	@install -m 644 $(LIB) "$(DESTDIR)$(PREFIX)/lib/libtumbeliko.a"
+	@install -m 644 include/tumbeliko.h "$(DESTDIR)$(PREFIX)/include/tumbeliko.h"
+	@install -m 644 tools/tumbeliko.1 "$(DESTDIR)$(PREFIX)/share/man/man1/tumbeliko.1"
+	@echo "library, header, program and manual page are in $(DESTDIR)$(PREFIX)"
 
 demo: build/demo build/line-demo
 	@$(RUN) build/demo
