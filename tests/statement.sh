@@ -28,7 +28,7 @@ fresh() {
     rm -rf "$copy"
     mkdir -p "$copy/docs"
     cp docs/PROMISES.md "$copy/docs"
-    for folder in crates/*/specs crates/*/src crates/line_demand/proofs crates/line_mailbox/proofs; do
+    for folder in crates/*/specs crates/*/src crates/line_demand/proofs crates/line_mailbox/proofs crates/line_notice/proofs; do
         mkdir -p "$copy/$folder"
         cp -R "$folder/." "$copy/$folder"
     done

@@ -23,6 +23,8 @@ STATEMENT = [
     ("line_demand", "specs.Demand", "DemandThree"),
     ("line_mailbox", "proofs.Demand", "demand-three-polled"),
     ("line_mailbox", "specs.Demand", "DemandThreePolled"),
+    ("line_notice", "proofs.Demand", "demand-three-notices"),
+    ("line_notice", "specs.Demand", "DemandThreeNotices"),
 ]
 
 # The crates whose functions C calls, each a part of the page.

@@ -7,7 +7,7 @@ use lib.ListN.{set, replicate}
 use Rattle.octets.specs.Bytes.{put, two}
 use Rattle.octets.proofs.Laws.{put-next}
 
-head : (n t sender own : ℕ) (s : List ℕ) → set (set (set (set s 0 n) 1 t) 2 sender) 3 own ≡ put 0 (n ∷ t ∷ sender ∷ own ∷ []) s
+pub head : (n t sender own : ℕ) (s : List ℕ) → set (set (set (set s 0 n) 1 t) 2 sender) 3 own ≡ put 0 (n ∷ t ∷ sender ∷ own ∷ []) s
 unfolding put
 head n t sender own s = refl
 

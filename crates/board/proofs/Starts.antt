@@ -27,7 +27,7 @@ use Rattle.board.specs.Started.{freshBytes, begun, startOf}
 abbrev pub unmarked : Marks
 unmarked = record { acquired = false; voted = false; output = false; done = false; echoes = 0; usable = 0; votes = 0 }
 
-getD-zeros : (n i : ℕ) → _≡_ {A = ℕ} (getD (replicate n 0) i 0) 0
+pub getD-zeros : (n i : ℕ) → _≡_ {A = ℕ} (getD (replicate n 0) i 0) 0
 getD-zeros zero i = refl
 getD-zeros (suc n) zero = refl
 getD-zeros (suc n) (suc i) = getD-zeros n i
@@ -41,7 +41,7 @@ module _ (s : List ℕ) (a e : ℕ) (zeros : (i : ℕ) → a ≤ i → i < e →
   unfolding fourAt
   four-zero i h k = rw (two-zero i h (omega arith), two-zero (i + 2) (omega arith) (omega arith))
 
-  eight-zero : (i : ℕ) → a ≤ i → i + 8 ≤ e → eightAt s i ≡ 0
+  pub eight-zero : (i : ℕ) → a ≤ i → i + 8 ≤ e → eightAt s i ≡ 0
   unfolding eightAt
   eight-zero i h k = rw (four-zero i h (omega arith), four-zero (i + 4) (omega arith) (omega arith))
 

@@ -27,7 +27,7 @@ use Rattle.octets.proofs.Picks.{or-none-l}
 use Rattle.board.proofs.Buffers.{not-short}
 
 -- a test on the way to taking a record was not met
-unmet : (b : Bool) (q a : ℕ) (y : Plan) (k p f : ℕ) → pick b (Refuse q a) y ≡ Take k p f → (b ≡ false) × (y ≡ Take k p f)
+pub unmet : (b : Bool) (q a : ℕ) (y : Plan) (k p f : ℕ) → pick b (Refuse q a) y ≡ Take k p f → (b ≡ false) × (y ≡ Take k p f)
 unfolding pick
 unmet true q a y k p f e = absurd (let z : _≡_ {A = ℕ} 0 1 = cc in omega arith)
 unmet false q a y k p f e = (refl, e)
@@ -109,11 +109,11 @@ fragment-room b from f len h l m =
 abbrev pub Listed : ℕ → ℕ → ℕ → Type 0
 Listed n q a = ((2 ≤ q) × (q ≤ 9) × (a ≡ 0)) ⊎ ((20 ≤ q) × (q ≤ 25) × (a ≤ n))
 
-ListedBy : ℕ → Plan → Type 0
+unfoldable pub ListedBy : ℕ → Plan → Type 0
 ListedBy n (Refuse q a) = Listed n q a
 ListedBy n (Take k p f) = Unit
 
-listed-pick : (n : ℕ) (b : Bool) (q : ℕ) (y : Plan) → 2 ≤ q → q ≤ 9 → ListedBy n y → ListedBy n (pick b (Refuse q 0) y)
+pub listed-pick : (n : ℕ) (b : Bool) (q : ℕ) (y : Plan) → 2 ≤ q → q ≤ 9 → ListedBy n y → ListedBy n (pick b (Refuse q 0) y)
 unfolding ListedBy pick
 listed-pick n true q y h k l = inl (h, k, refl)
 listed-pick n false q y h k l = l

@@ -11,7 +11,35 @@ use Rattle.octets.proofs.Picks.{never}
 use lib.Dec.{eqb}
 use Rattle.table.specs.Table.{kOf, mostOf, someOf}
 use Rattle.table.specs.declared.Table.{Table}
-use Rattle.board_figure.specs.Figure.{Message, send, echo, vote, Event, Echo, Figure, correct, noted, receive, At, acquire, turned, parties, echoFor, usableEcho, voteFor, voting, echoFragment, lowest, Output, Branch, acquires, votes-by-echoes, votes-by-votes, opens, delivers, Still, Fires, rests, goes}
+use Rattle.figure.specs.Received.{noted, parties, partiesFor}
+use Rattle.figure.proofs.History.{Likeness}
+use Rattle.board_figure.specs.History.{boardParty}
+use Rattle.board_figure.specs.Figure.{
+  Message,
+  send,
+  echo,
+  vote,
+  Event,
+  Echo,
+  Figure,
+  correct,
+  receive,
+  At,
+  acquire,
+  turned,
+  echoFor,
+  usableEcho,
+  voting,
+  echoFragment,
+  lowest,
+  Output,
+  Branch,
+  acquires,
+  votes-by-echoes,
+  votes-by-votes,
+  opens,
+  delivers,
+}
 
 -- a party that is done looks at nothing; one that acquired, or is in the output stage, at no send
 pub record Alike (x y : Figure) : Type 0 where
@@ -23,11 +51,11 @@ pub record Alike (x y : Figure) : Type 0 where
   pub echoOf : x .done ≡ false → x .echoOf ≡ y .echoOf
   pub voteOf : x .done ≡ false → x .voteOf ≡ y .voteOf
 
-pub alike-self : (x : Figure) → Alike x x
-alike-self x = record { acquired = refl; voted = refl; output = refl; done = refl; sent = λ d o a. refl; echoOf = λ d. refl; voteOf = λ d. refl }
+self : (x : Figure) → Alike x x
+self x = record { acquired = refl; voted = refl; output = refl; done = refl; sent = λ d o a. refl; echoOf = λ d. refl; voteOf = λ d. refl }
 
-pub alike-back : (x y : Figure) → Alike x y → Alike y x
-alike-back x y l = record {
+back : (x y : Figure) → Alike x y → Alike y x
+back x y l = record {
   acquired = sym (l .acquired);
   voted = sym (l .voted);
   output = sym (l .output);
@@ -37,8 +65,8 @@ alike-back x y l = record {
   voteOf = λ d. sym (l .voteOf (l .done ∙ d));
 }
 
-pub alike-through : (x y z : Figure) → Alike x y → Alike y z → Alike x z
-alike-through x y z l m = record {
+through : (x y z : Figure) → Alike x y → Alike y z → Alike x z
+through x y z l m = record {
   acquired = l .acquired ∙ m .acquired;
   voted = l .voted ∙ m .voted;
   output = l .output ∙ m .output;
@@ -65,7 +93,7 @@ turned-alike x y l going v w o p d e voted output done place = record {
 
 module _ (b : Table) (own : ℕ) where
   votes-for : (q : ℕ) (x y : Figure) → Alike x y → x .done ≡ false → (r : List ℕ) → q ≤ ones (voting b x r) → q ≤ ones (voting b y r)
-  votes-for q x y l going r = subst (λ (f : ℕ → Option (List ℕ)). q ≤ ones (parties b (λ i. voteFor r (f i)))) (l .voteOf going)
+  votes-for q x y l going r = subst (λ (f : ℕ → Option (List ℕ)). q ≤ ones (partiesFor b f r)) (l .voteOf going)
 
   -- the same of echoes
   abbrev Outputs : List ℕ → Option (List ℕ) → (ℕ → Option Echo) → Type 0
@@ -81,7 +109,8 @@ module _ (b : Table) (own : ℕ) where
   )
   also x y l es u (votes-by-echoes r a w h) = (
     turned y true (y .output) (y .done),
-    votes-by-echoes r (at-alike false l a) (sym (l .voted) ∙ w) (subst (λ (f : ℕ → Option Echo). mostOf b ≤ ones (parties b (λ i. echoFor r (f i)))) (l .echoOf (a .going)) h),
+    votes-by-echoes r (at-alike false l a) (sym (l .voted) ∙ w)
+        (subst (λ (f : ℕ → Option Echo). mostOf b ≤ ones (parties b (λ i. echoFor r (f i)))) (l .echoOf (a .going)) h),
     turned-alike x y l (a .going) true true (x .output) (y .output) (x .done) (y .done) refl (l .output) (l .done) (λ d o. a .place),
   )
   also x y l es u (votes-by-votes r a w h) = (
@@ -101,21 +130,9 @@ module _ (b : Table) (own : ℕ) where
     turned-alike x y l (a .going) (x .voted) (y .voted) (x .output) (y .output) true true (l .voted) (l .output) refl (λ d o. never (sym d)),
   )
 
-  pub still-alike : (x y : Figure) → Alike x y → Still b own x → Still b own y
-  still-alike x y l st es u br = let (v, br′, m) = also y x (alike-back x y l) es u br in st es v br′
-
-  -- so they fire alike
-  pub fires-alike : (x y : Figure) → Alike x y → (es : List Event) (u : Figure) → Fires b own x es u → (v : Figure) × Fires b own y es v × Alike u v
-  fires-alike x y l es u (rests st) = (y, rests (still-alike x y l st), l)
-  fires-alike x y l es u (goes {y = v} {es = ds} {fs = gs} br f) =
-      let (w, br′, m) = also x y l ds v br in
-      let (z, f′, n) = fires-alike v w m gs u f in
-      (z, goes br′ f′, n)
-
-  -- and receive alike
-  pub receive-alike : (i : ℕ) (m : Message) (x y : Figure) → Alike x y → Alike (receive b i m x) (receive b i m y)
+  received : (i : ℕ) (m : Message) (x y : Figure) → Alike x y → Alike (receive b i m x) (receive b i m y)
   unfolding receive
-  receive-alike i (send p) x y l = record {
+  received i (send p) x y l = record {
     acquired = l .acquired;
     voted = l .voted;
     output = l .output;
@@ -124,7 +141,7 @@ module _ (b : Table) (own : ℕ) where
     echoOf = l .echoOf;
     voteOf = l .voteOf;
   }
-  receive-alike i (echo p) x y l = record {
+  received i (echo p) x y l = record {
     acquired = l .acquired;
     voted = l .voted;
     output = l .output;
@@ -133,4 +150,15 @@ module _ (b : Table) (own : ℕ) where
     echoOf = λ d. ap (noted i (record { root = p .root; fragment = p .fragment; usable = correct b i p })) (l .echoOf d);
     voteOf = l .voteOf;
   }
-  receive-alike i (vote r) x y l = record { acquired = l .acquired; voted = l .voted; output = l .output; done = l .done; sent = l .sent; echoOf = l .echoOf; voteOf = λ d. ap (noted i r) (l .voteOf d) }
+  received i (vote r) x y l = record {
+    acquired = l .acquired;
+    voted = l .voted;
+    output = l .output;
+    done = l .done;
+    sent = l .sent;
+    echoOf = l .echoOf;
+    voteOf = λ d. ap (noted i r) (l .voteOf d);
+  }
+
+  pub alike : Likeness (boardParty b own) Alike
+  alike = record { self = self; back = back; through = through; also = also; received = received }

@@ -1,7 +1,7 @@
 -- Only the root just named can enable a branch, so the branches that fire after a message are determined: their order cannot matter.
-use mathlib.Core.Path.{_≡_, refl, sym, subst, ap, ap₂, _∙_}
+use mathlib.Core.Path.{_≡_, refl, sym, subst, ap}
 use Prim.Native.Nat.{ℕ, _≤_}
-use mathlib.Core.List.{List, [], _∷_, _++_, append-nil}
+use mathlib.Core.List.{List, [], _∷_}
 use mathlib.Core.Bool.{Bool, true, false}
 use mathlib.Core.Option.{Option, none, some}
 use native.Mathlib.Omega.{arith}
@@ -11,9 +11,34 @@ use Rattle.octets.proofs.Sames.{same-equal}
 use Rattle.table.specs.Table.{limits, kOf, mostOf, someOf}
 use Rattle.table.specs.declared.Table.{Table}
 use Rattle.table.proofs.Within.{within}
-use Rattle.board_figure.specs.Figure.{Piece, echo, vote, Event, sends, outputs, Figure, correct, receive, echoing, usables, voting, At, turned, acquire, OutputFor, Branch, acquires, votes-by-echoes, votes-by-votes, opens, delivers, Still, Fires, rests, goes}
+use Rattle.board_figure.specs.Figure.{
+  Piece,
+  echo,
+  vote,
+  Event,
+  Figure,
+  correct,
+  receive,
+  echoing,
+  usables,
+  voting,
+  At,
+  turned,
+  acquire,
+  OutputFor,
+  Branch,
+  acquires,
+  votes-by-echoes,
+  votes-by-votes,
+  opens,
+  delivers,
+}
 use Rattle.octets.proofs.Picks.{never}
-use Rattle.board_figure.proofs.Counts.{clash, echo-else, vote-else, one-root}
+use Rattle.figure.specs.Acts.{sends, outputs}
+use Rattle.figure.specs.Fires.{Still, Fires}
+use Rattle.figure.proofs.Counts.{clash}
+use Rattle.figure.proofs.Firing.{fires-one, fires-once, once-only}
+use Rattle.board_figure.proofs.Counts.{echo-else, vote-else, one-root}
 use Rattle.board_figure.proofs.Results.{one-output}
 
 absent : {X Y : Type 0} (o : Option X) (v : X) → o ≡ none → o ≡ some v → Y
@@ -65,21 +90,15 @@ module _ (b : Table) (own : ℕ) where
   only-still root x o es y (ending q m p g j d) = record { no-send = o .no-send; by-echoes = λ r a c h. clash (x .output) p a; by-votes = λ r a c h. clash (x .output) p a }
 
   -- so all firing from there sends and outputs the same and ends at the same
-  pub fires-one : limits b ≡ true → (root : List ℕ) (x : Figure) → Only root x → (es fs : List Event) (y z : Figure)
-      → Fires b own x es y → Fires b own x fs z → (es ≡ fs) × (y ≡ z)
-  fires-one w root x o es fs y z (rests st) (rests su) = (refl, refl)
-  fires-one w root x o es fs y z (rests st) (goes br f) = absurd (st _ _ br)
-  fires-one w root x o es fs y z (goes br f) (rests st) = absurd (st _ _ br)
-  fires-one w root x o es fs y z (goes {y = u} {es = ds} {fs = gs} br f) (goes {y = v} {es = cs} {fs = hs} bq g) =
-      let t = turn root x o ds u br in
-      let (e, q) = turn-one w root x ds cs u v t (turn root x o cs v bq) in
-      let g′ : Fires b own u hs z = subst (λ (i : Figure). Fires b own i hs z) (sym q) g in
-      let (c, d) = fires-one w root u (only-still root x o ds u t) gs hs y z f g′ in
-      (ap₂ _++_ e c, d)
+  pub word-one : limits b ≡ true → (root : List ℕ) (x : Figure) → Only root x → (es fs : List Event) (y z : Figure)
+      → Fires (Branch b own) x es y → Fires (Branch b own) x fs z → (es ≡ fs) × (y ≡ z)
+  word-one w root =
+      fires-one (Branch b own) (Only root) (λ x o es fs y z p q. turn-one w root x es fs y z (turn root x o es y p) (turn root x o fs z q))
+      (λ x o es y p. only-still root x o es y (turn root x o es y p))
 
   -- ---- after an echo or a vote
 
-  module _ (i : ℕ) (x : Figure) (still : Still b own x) (none-sent : x .sent ≡ none) (going : x .done ≡ false) where
+  module _ (i : ℕ) (x : Figure) (still : Still (Branch b own) x) (none-sent : x .sent ≡ none) (going : x .done ≡ false) where
     no-echoes : (r : List ℕ) → x .output ≡ false → x .voted ≡ false → mostOf b ≤ ones (echoing b x r) → ⊥
     no-echoes r o v h = still _ _ (votes-by-echoes r (record { going = going; place = o }) v h)
 
@@ -105,12 +124,8 @@ module _ (b : Table) (own : ℕ) where
 
   -- ---- after a send
 
-  rest-one : (x : Figure) → Still b own x → (es : List Event) (y : Figure) → Fires b own x es y → (es ≡ []) × (y ≡ x)
-  rest-one x still es y (rests st) = (refl, refl)
-  rest-one x still es y (goes br f) = absurd (still _ _ br)
-
-  module _ (x : Figure) (p : Piece) (still : Still b own x) (at : At false x) (fresh : x .acquired ≡ false) where
-    abbrev waiting : Figure
+  module _ (x : Figure) (p : Piece) (still : Still (Branch b own) x) (at : At false x) (fresh : x .acquired ≡ false) where
+    abbrev pub waiting : Figure
     waiting = record {
       acquired = x .acquired;
       voted = x .voted;
@@ -125,7 +140,7 @@ module _ (b : Table) (own : ℕ) where
     echoed = pick (correct b own p) (sends (echo p) ∷ []) []
 
     -- the other branches look at nothing that a send changes
-    acquired-still : Still b own (acquire x)
+    acquired-still : Still (Branch b own) (acquire x)
     acquired-still es y (acquires q a c s) = absent (acquire x .sent) q refl s
     acquired-still es y (votes-by-echoes r a v h) = still _ _ (votes-by-echoes r (record { going = a .going; place = a .place }) v h)
     acquired-still es y (votes-by-votes r a v h) = still _ _ (votes-by-votes r (record { going = a .going; place = a .place }) v h)
@@ -145,13 +160,8 @@ module _ (b : Table) (own : ℕ) where
     acquiring : Branch b own waiting echoed (acquire x)
     acquiring = acquires p (record { going = at .going; place = at .place }) fresh refl
 
-    pub send-fires : Fires b own waiting echoed (acquire x)
-    send-fires = subst (λ (es : List Event). Fires b own waiting es (acquire x)) (append-nil echoed) (goes acquiring (rests acquired-still))
+    pub send-fires : Fires (Branch b own) waiting echoed (acquire x)
+    send-fires = fires-once (Branch b own) waiting echoed (acquire x) acquiring acquired-still
 
-    pub send-one : (es : List Event) (y : Figure) → Fires b own waiting es y → (es ≡ echoed) × (y ≡ acquire x)
-    send-one es y (rests st) = absurd (st _ _ acquiring)
-    send-one es y (goes {y = u} {es = ds} {fs = gs} br f) =
-        let (e, q) = send-turn ds u br in
-        let f′ : Fires b own (acquire x) gs y = subst (λ (i : Figure). Fires b own i gs y) q f in
-        let (g, z) = rest-one (acquire x) acquired-still gs y f′ in
-        (ap₂ _++_ e g ∙ append-nil echoed, z)
+    pub send-one : (es : List Event) (y : Figure) → Fires (Branch b own) waiting es y → (es ≡ echoed) × (y ≡ acquire x)
+    send-one = once-only (Branch b own) waiting echoed (acquire x) acquiring acquired-still send-turn

@@ -1,9 +1,8 @@
 -- One board from its start, any records handed over one after the other, accepted or refused, is a run of figure 5.
-use mathlib.Core.Path.{_≡_, refl, subst, ap}
+use mathlib.Core.Path.{_≡_, refl, subst}
 use Prim.Native.Nat.{ℕ, _≤_}
-use mathlib.Core.List.{List, [], _∷_}
+use mathlib.Core.List.{List}
 use mathlib.Core.Bool.{true}
-use mathlib.Core.Logic.{_⊎_, inl, inr}
 use lib.ListN.{length}
 use Rattle.octets.proofs.Laws.{length-put}
 use Rattle.table.specs.declared.Table.{Table}
@@ -18,73 +17,83 @@ use Rattle.board.proofs.Starts.{start-table, start-own, accepted, start-sound}
 use Rattle.board.proofs.Taken.{taken}
 use Rattle.board_step.specs.Step.{refused, byPlan, stepOf}
 use Rattle.board_step.proofs.Outcomes.{stays}
-use Rattle.board_figure.specs.Figure.{Message, Figure, begins, receive}
+use Rattle.figure.specs.Fires.{Still}
+use Rattle.figure.specs.Run.{Handed, Party, Run}
+use Rattle.figure.proofs.History.{Made, took, runs}
+use Rattle.figure.proofs.Refusals.{Why, refused-made}
+use Rattle.board_figure.specs.Figure.{Figure, begins, Branch}
 use Rattle.board_figure.specs.Shown.{figureOf, messageOf}
-use Rattle.board_figure.specs.History.{Handed, OfBytes, stepOn, readAs, Means, NoMessage, passedOver, FigureRun, ends, takes, passes, misses}
-use Rattle.board_figure.proofs.Alike.{Alike, alike-self, alike-back, alike-through, still-alike, fires-alike, receive-alike}
+use Rattle.board_figure.specs.History.{OfBytes, readAs, Means, boardParty}
+use Rattle.board_figure.proofs.Alike.{Alike, alike}
 use Rattle.board_figure.proofs.Begins.{start-begins}
 use Rattle.board_step.proofs.Octets.{step-bytes, start-bytes}
 use Rattle.board_figure.proofs.Overdue.{nothing-overdue}
-use Rattle.board_figure.proofs.Refusals.{refused-why}
+use Rattle.board_figure.proofs.Refusals.{why-refused}
 use Rattle.board_figure.proofs.StepIsFigure.{step-is-figure}
 
--- one record: x is alike the party that the state s shows, and the rest is a run from any party that is alike the one then
-module _ (s : List ℕ) (h : Handed) (so : sound (view s) ≡ true) (room : stateSize (tableOf s) ≤ length s) (bytes : All Byte s) (rb : All Byte (h .bytes)) (x : Figure) (l : Alike (figureOf s) x)
-    (hs : List Handed) (rest : (y : Figure) → Alike (figureOf (stepOn s h .state)) y → FigureRun (tableOf s) (ownOf s) y (stepOn s h .state) hs) where
-  abbrev b : Table
-  b = tableOf s
+-- ---- a board's states: sound, large enough, bytes, with one table and one own number
 
-  abbrev own : ℕ
-  own = ownOf s
+record Fit (b : Table) (own : ℕ) (s : List ℕ) : Type 0 where
+  sound : sound (view s) ≡ true
+  room : stateSize (tableOf s) ≤ length s
+  bytes : All Byte s
+  table : tableOf s ≡ b
+  number : ownOf s ≡ own
 
-  refuses : (q a : ℕ) → planOf s (h .from) (h .bytes) (h .out) (h .delivery) ≡ Refuse q a → stepOn s h ≡ refused q a s (h .out) (h .delivery)
+module _ (b : Table) (own : ℕ) (s : List ℕ) (f : Fit b own s) where
+  still : Still (Branch b own) (figureOf s)
+  still =
+      subst (λ (c : Table). Still (Branch c own) (figureOf s)) (f .table)
+      (subst (λ (j : ℕ). Still (Branch (tableOf s) j) (figureOf s)) (f .number) (nothing-overdue s (f .sound)))
+
+  fit-stays : (h : Handed) → OfBytes h → Fit b own (stepOf s (h .from) (h .bytes) (h .out) (h .delivery) .state)
+  fit-stays h g =
+      let k = stays s (h .from) (h .bytes) (h .out) (h .delivery) (f .sound) in
+      record {
+        sound = k .still-sound;
+        room = rw (k .table, k .size) (f .room);
+        bytes = step-bytes s (h .from) (h .bytes) (h .out) (h .delivery) (f .bytes) g;
+        table = rw (k .table) (f .table);
+        number = rw (k .own) (f .number);
+      }
+
+-- what a board makes of one record
+module _ (s : List ℕ) (so : sound (view s) ≡ true) (room : stateSize (tableOf s) ≤ length s) (bytes : All Byte s) (h : Handed) (g : OfBytes h) where
+  abbrev party : Party
+  party = boardParty (tableOf s) (ownOf s)
+
+  refuses : (q a : ℕ) → planOf s (h .from) (h .bytes) (h .out) (h .delivery) ≡ Refuse q a
+      → stepOf s (h .from) (h .bytes) (h .out) (h .delivery) ≡ refused q a s (h .out) (h .delivery)
   unfolding stepOf byPlan
   refuses q a e = rw e
 
-  -- the state stays
-  goes-on : (q a : ℕ) → planOf s (h .from) (h .bytes) (h .out) (h .delivery) ≡ Refuse q a → (y : Figure) → Alike (figureOf s) y → FigureRun b own y s hs
-  goes-on q a e y = subst (λ (v : List ℕ). (Alike (figureOf v) y → FigureRun b own y v hs)) (ap (λ z. z .state) (refuses q a e)) (rest y)
-
-  by-plan : (z : Plan) → planOf s (h .from) (h .bytes) (h .out) (h .delivery) ≡ z → FigureRun b own x s (h ∷ hs)
+  means : (k p f : ℕ) → planOf s (h .from) (h .bytes) (h .out) (h .delivery) ≡ Take k p f → Means (tableOf s) h (messageOf k p f (h .bytes))
   unfolding readAs
-  by-plan (Take k p f) e =
-      let t = taken s (h .from) (h .bytes) (h .out) (h .delivery) k p f e in
-      let g = step-is-figure s (h .from) (h .bytes) (h .out) (h .delivery) bytes rb k p f e in
-      let m = messageOf k p f (h .bytes) in
-      let alike = receive-alike b own (h .from) m (figureOf s) x l in
-      let (y, fires, then) = fires-alike b own (receive b (h .from) m (figureOf s)) (receive b (h .from) m x) alike (g .events) (figureOf (stepOn s h .state)) (g .fires) in
-      let means : Means b h m = record { party = t .board; reads = rw (t .form) } in
-      takes means fires
-      (λ fs z f. let (w, f′, k) = fires-alike b own (receive b (h .from) m x) (receive b (h .from) m (figureOf s)) (alike-back _ _ alike) fs z f in g .only fs w f′ .0)
-      (g .answer) (rest y then)
-  by-plan (Refuse q a) e = go (refused-why s h so room q a e)
-    where
-      go : NoMessage b h q a ⊎ ((a ≡ 0) × ((m : Message) × Means b h m × (passedOver q ≡ true) × Alike (receive b (h .from) m (figureOf s)) (figureOf s))) → FigureRun b own x s (h ∷ hs)
-      go (inl none-there) = misses none-there (refuses q a e) (goes-on q a e x l)
-      go (inr (none, (m, means, number, idle))) =
-          let alike = receive-alike b own (h .from) m (figureOf s) x l in
-          let same = alike-through (figureOf s) _ _ (alike-back _ _ idle) alike in
-          passes means number (still-alike b own (figureOf s) _ same (nothing-overdue s so)) (rw none at (refuses q a e)) (goes-on q a e _ same)
+  means k p f e = let t = taken s (h .from) (h .bytes) (h .out) (h .delivery) k p f e in record { party = t .board; reads = rw (t .form) }
 
-runs : (hs : List Handed) → All OfBytes hs → (s : List ℕ) → All Byte s → sound (view s) ≡ true → stateSize (tableOf s) ≤ length s → (x : Figure) → Alike (figureOf s) x → FigureRun (tableOf s) (ownOf s) x s hs
-runs [] g s bytes so room x l = ends
-runs (h ∷ hs) g s bytes so room x l =
-    let s2 = stepOn s h .state in
-    let k = stays s (h .from) (h .bytes) (h .out) (h .delivery) so in
-    let long : stateSize (tableOf s2) ≤ length s2 = rw (k .table, k .size) room in
-    by-plan s h so room bytes (g .0) x l hs
-    (λ y a. subst (λ (b : Table). FigureRun b (ownOf s) y s2 hs) (k .table) (subst (λ (own : ℕ). FigureRun (tableOf s2) own y s2 hs) (k .own) (runs hs (g .1) s2 (step-bytes s (h .from) (h .bytes) (h .out) (h .delivery) bytes (g .0)) (k .still-sound) long y a)))
-    (planOf s (h .from) (h .bytes) (h .out) (h .delivery)) refl
+  by-plan : (z : Plan) → planOf s (h .from) (h .bytes) (h .out) (h .delivery) ≡ z → Made party figureOf Alike s h
+  by-plan (Take k p f) e =
+      took (messageOf k p f (h .bytes)) (means k p f e) (step-is-figure s (h .from) (h .bytes) (h .out) (h .delivery) bytes g k p f e)
+  by-plan (Refuse q a) e = refused-made party figureOf Alike s h q a (subst (Why party figureOf Alike s h) e (why-refused s h so room)) (refuses q a e)
+
+makes : (b : Table) (own : ℕ) (s : List ℕ) → Fit b own s → (h : Handed) → OfBytes h → Made (boardParty b own) figureOf Alike s h
+makes b own s f h g =
+    subst (λ (c : Table). Made (boardParty c own) figureOf Alike s h) (f .table)
+    (subst (λ (j : ℕ). Made (boardParty (tableOf s) j) figureOf Alike s h) (f .number)
+    (by-plan s (f .sound) (f .room) (f .bytes) h g (planOf s (h .from) (h .bytes) (h .out) (h .delivery)) refl))
 
 -- the theorem
-pub history-is-figure : (b : Table) (own : ℕ) (s : List ℕ) → All Byte s → (hs : List Handed) → All OfBytes hs → startOf b own s .number ≡ 0 → FigureRun b own begins (startOf b own s .state) hs
+pub history-is-figure : (b : Table) (own : ℕ) (s : List ℕ) → All Byte s → (hs : List Handed) → All OfBytes hs → startOf b own s .number ≡ 0
+    → Run (boardParty b own) begins (startOf b own s .state) hs
 history-is-figure b own s bytes hs g h =
     let a = accepted b own s h in
     let s0 = startOf b own s .state in
     let table : tableOf s0 ≡ b = rw (a .state) (start-table b own s (a .lim) (a .known) (a .long)) in
     let number : ownOf s0 ≡ own = rw (a .state) (start-own b own s (a .lim) (a .known) (a .long)) in
-    let long : length s0 ≡ length s = rw (a .state) (length-put 0 (freshBytes b own) s) in
-    subst (λ (c : Table). FigureRun c own begins s0 hs) table
-    (subst (λ (j : ℕ). FigureRun (tableOf s0) j begins s0 hs) number
-    (subst (λ (x : Figure). FigureRun (tableOf s0) (ownOf s0) x s0 hs) (start-begins b own s h)
-    (runs hs g s0 (start-bytes b own s bytes h) (start-sound b own s h) (rw (table, long) (a .room)) (figureOf s0) (alike-self (figureOf s0)))))
+    let size : length s0 ≡ length s = rw (a .state) (length-put 0 (freshBytes b own) s) in
+    let fit : Fit b own s0 =
+    record { sound = start-sound b own s h; room = rw (table, size) (a .room); bytes = start-bytes b own s bytes h; table = table; number = number } in
+    let like = alike b own in
+    subst (λ (x : Figure). Run (boardParty b own) x s0 hs) (start-begins b own s h)
+    (runs (boardParty b own) figureOf Alike like (Fit b own) OfBytes (still b own) (fit-stays b own) (makes b own) hs g s0 fit (figureOf s0)
+    (like .self (figureOf s0)))

@@ -27,16 +27,18 @@ use Rattle.board.specs.Stepped.{recordRoot, marked, kept, votedNow, endsNow}
 use Rattle.board.proofs.Taken.{Taken, taken, not-done}
 use Rattle.board.proofs.StepSound.{settled-sounds}
 use Rattle.board_step.specs.Step.{Outcome, good, putOut, resultIn, delivered, saidBy, takenOf, byPlan, stepOf}
-use Rattle.board_figure.specs.Figure.{Piece, echo, vote, Figure, receive, usables, voting, At, votes-by-echoes, votes-by-votes, Still}
+use Rattle.figure.specs.Fires.{Still}
+use Rattle.figure.proofs.Counts.{clash}
+use Rattle.board_figure.specs.Figure.{Piece, echo, vote, Figure, receive, usables, voting, At, Branch, votes-by-echoes, votes-by-votes}
 use Rattle.board_figure.specs.Shown.{figureOf, pieceOf, messageOf}
-use Rattle.board_figure.proofs.Counts.{clash, vote-one, usables-fewer}
+use Rattle.board_figure.proofs.Counts.{vote-one, usables-fewer}
 use Rattle.board_figure.proofs.Overdue.{nothing-overdue}
 use Rattle.board_figure.proofs.Words.{ends-counts, output-voted}
 use Rattle.board_figure.proofs.StepIsFigure.{echo-shown, vote-shown}
 
 -- ---- in figure 5: a party that has not voted, and for which no branch is enabled, receives a message
 
-module _ (b : Table) (own i : ℕ) (x : Figure) (w : Within b) (still : Still b own x) (at : At false x) (unvoted : x .voted ≡ false) (r : List ℕ) where
+module _ (b : Table) (own i : ℕ) (x : Figure) (w : Within b) (still : Still (Branch b own) x) (at : At false x) (unvoted : x .voted ≡ false) (r : List ℕ) where
   -- an echo finds the n - t votes there, and they would have brought the vote
   echo-ends-not : (p : Piece) → mostOf b ≤ ones (voting b (receive b i (echo p) x) r) → ⊥
   unfolding receive
@@ -85,7 +87,7 @@ module _ (s : List ℕ) (from : ℕ) (r o d : List ℕ) (p f : ℕ) where
     w : Within b
     w = within b (sounds (view s) (t .sound) .lim)
 
-    still : Still b own (figureOf s)
+    still : Still (Branch b own) (figureOf s)
     still = nothing-overdue s (t .sound)
 
     at-loop : At false (figureOf s)

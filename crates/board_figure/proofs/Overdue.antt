@@ -23,25 +23,13 @@ use Rattle.octets.proofs.Members.{some-at, some-find}
 use Rattle.state.proofs.Facts.{Sounds, sounds}
 use Rattle.state.proofs.Tallies.{naming-find}
 use Rattle.board_step.specs.Step.{usableFor, resultIn}
-use Rattle.board_figure.specs.Figure.{Figure, echoing, usables, voting, At, acquires, votes-by-echoes, votes-by-votes, opens, delivers, Still}
+use Rattle.board_figure.specs.Figure.{Figure, echoing, usables, voting, At, Branch, acquires, votes-by-echoes, votes-by-votes, opens, delivers}
 use Rattle.board_figure.specs.Shown.{figureIn, figureOf}
-use Rattle.board_figure.proofs.Counts.{clash, fails, one-root}
+use Rattle.figure.specs.Fires.{Still}
+use Rattle.figure.proofs.Counts.{clash, fails, reaches-by, reaches-of}
+use Rattle.board_figure.proofs.Counts.{one-root}
 use Rattle.board_figure.proofs.Results.{output-seen}
 use Rattle.board_figure.proofs.Seen.{Heard, heard, echoing-seen, usables-seen, voting-seen}
-
--- a root that q boards name, and some root that q boards name
-module _ (n q set : ℕ) (f : ℕ → List ℕ) where
-  pub reaches-by : (r : List ℕ) → 1 ≤ q → q ≤ ones (naming n set f r) → reaches n q set f ≡ true
-  unfolding reaches
-  reaches-by r one h =
-      let (i, l, t, e) = naming-find n set f r (omega arith) in
-      some-at (λ j. has set j && leb q (ones (naming n set f (f j)))) 0 n i (omega arith) (omega arith) (rw (t, e, le-leb q (ones (naming n set f r)) h))
-
-  pub reaches-of : reaches n q set f ≡ true → (r : List ℕ) × (q ≤ ones (naming n set f r))
-  unfolding reaches
-  reaches-of e =
-      let (i, l, t) = some-find (λ j. has set j && leb q (ones (naming n set f (f j)))) 0 n e in
-      (f i, leb-true q (ones (naming n set f (f i))) (and-r (has set i) (leb q (ones (naming n set f (f i)))) t))
 
 -- what the flags make of "nothing is overdue"
 module _ (o d v w rv re rs : Bool) where
@@ -126,14 +114,14 @@ module _ (b : Table) (m : Marks) (s : List ℕ) where
   when-open h o d = waiting (m .output) (m .done) (m .voted) (waits v) most-votes most-echoes some-votes o d h
 
   -- a quiet state's figure enables no branch
-  still-by : Within b → Heard b m → (own : ℕ) → Quiet → Still b own x
+  still-by : Within b → Heard b m → (own : ℕ) → Quiet → Still (Branch b own) x
   still-by w g own h es y (acquires p a q e) = absurd (let z : _≡_ {A = ℕ} 0 1 = cc in omega arith)
   still-by w g own h es y (votes-by-echoes r a u k) = clash most-echoes (overdue-echoes w r k) (when-unvoted h (a .place) u .0)
   still-by w g own h es y (votes-by-votes r a u k) = clash some-votes (overdue-votes (someOf b) r (omega arith) k) (when-unvoted h (a .place) u .1)
   still-by w g own h es y (opens r a u k) = clash most-votes (overdue-votes (mostOf b) r (omega (arith, w .third)) k) (when-voted h (a .place) u)
   still-by w g own h es y (delivers r o a k l e) = too-few w g (when-open h (a .place) (a .going)) r k l
 
-  pub still-of : Sounds v → (own : ℕ) → Still b own x
+  pub still-of : Sounds v → (own : ℕ) → Still (Branch b own) x
   unfolding quiet
   still-of f own = still-by (within b (f .lim)) (heard b m s f) own (f .calm)
 
@@ -143,7 +131,7 @@ module _ (b : Table) (m : Marks) (s : List ℕ) where
 
   -- ---- and back: where no branch is enabled, nothing is overdue
 
-  module _ (lim : limits b ≡ true) (bytes : All Byte s) (g : Heard b m) (own : ℕ) (still : Still b own x) where
+  module _ (lim : limits b ≡ true) (bytes : All Byte s) (g : Heard b m) (own : ℕ) (still : Still (Branch b own) x) where
     no-echoes : At false x → m .voted ≡ false → most-echoes ≡ false
     no-echoes a u =
         fails most-echoes
@@ -189,7 +177,7 @@ module _ (b : Table) (m : Marks) (s : List ℕ) where
     calm-if-still f k = by-flags (m .output) (m .done) (m .voted) refl refl refl f k
 
 -- document 01, "A board's step": in a sound state "nothing is overdue"
-pub nothing-overdue : (s : List ℕ) → sound (view s) ≡ true → Still (tableOf s) (ownOf s) (figureOf s)
+pub nothing-overdue : (s : List ℕ) → sound (view s) ≡ true → Still (Branch (tableOf s) (ownOf s)) (figureOf s)
 nothing-overdue s h = still-of (tableOf s) (marksOf s) s (sounds (view s) h) (ownOf s)
 
 -- and "in the output stage and not done, one root has n-t votes"
@@ -200,5 +188,5 @@ root-waits s h = waiting-root (tableOf s) (marksOf s) s (sounds (view s) h)
 -- and back: these two, with the other conditions of soundness, say that nothing is overdue
 pub nothing-enabled : (s : List ℕ) → All Byte s → limits (tableOf s) ≡ true → flagsOk (marksOf s) ≡ true → Heard (tableOf s) (marksOf s)
     → (marksOf s .output ≡ true → marksOf s .done ≡ false → (r : List ℕ) × (mostOf (tableOf s) ≤ ones (voting (tableOf s) (figureOf s) r)))
-    → Still (tableOf s) (ownOf s) (figureOf s) → quiet (view s) ≡ true
+    → Still (Branch (tableOf s) (ownOf s)) (figureOf s) → quiet (view s) ≡ true
 nothing-enabled s bytes lim flags g opened still = calm-if-still (tableOf s) (marksOf s) s lim bytes g (ownOf s) still flags opened

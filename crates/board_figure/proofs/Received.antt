@@ -1,13 +1,13 @@
 -- A board's bytes once a record is kept show figure 5's party once the message is received; and the marks' write shows the marks.
 use mathlib.Core.Path.{_≡_, refl, ap}
-use Prim.Native.Nat.{ℕ, zero, suc, _+_, _^_, _≤_, _<_}
+use Prim.Native.Nat.{ℕ, suc, _+_, _^_, _≤_, _<_}
 use mathlib.Core.List.{List}
 use mathlib.Core.Bool.{Bool, true, false, not, _&&_, _||_}
-use mathlib.Core.Option.{Option, none, some}
+use mathlib.Core.Option.{none}
 use native.Mathlib.Omega.{arith}
-use borrow.Author.Tests.{eqb-true, eqb-false, leb-true}
+use borrow.Author.Tests.{leb-true}
 use lib.Bits.{bitOr}
-use lib.Dec.{leb, eqb, eqb·zero-suc, eqb·suc-suc}
+use lib.Dec.{leb, eqb}
 use lib.ListN.{length}
 use Rattle.octets.specs.Bytes.{pick, part, put, two, twoAt}
 use Rattle.octets.specs.Sets.{has}
@@ -23,31 +23,11 @@ use Rattle.state.proofs.Facts.{Sounds}
 use Rattle.state.proofs.Writes.{Fit, table-kept, rest-kept, fragment-kept, marks-back}
 use Rattle.state.proofs.Views.{vote-new, vote-old, vote-echoes, vote-len, vote-fragment, echo-new, echo-old, echo-votes, fragment-new, fragment-old}
 use Rattle.board.specs.Stepped.{marked}
-use Rattle.board_figure.specs.Figure.{Piece, echo, vote, Echo, correct, first, noted, receive, acquire}
-use Rattle.board_figure.specs.Shown.{echoIn, voteIn, figureIn, figureOf}
+use Rattle.figure.specs.Received.{noted, shown}
+use Rattle.figure.proofs.Noting.{shown-same, shown-more}
+use Rattle.board_figure.specs.Figure.{Piece, echo, vote, Echo, correct, receive, acquire}
+use Rattle.board_figure.specs.Shown.{keptEcho, keptVote, figureIn, figureOf}
 use Rattle.board_figure.proofs.Seen.{heard}
-
--- ---- what is received, by the set and by what is kept of each board
-
-abbrev shown : {X : Type 0} → Bool → X → Option X
-shown c v = pick c (some v) none
-
--- a value that is shown only if its test holds
-shown-same : {X : Type 0} (c : Bool) (u v : X) → (c ≡ true → u ≡ v) → shown c u ≡ shown c v
-unfolding pick
-shown-same true u v h = ap some (h refl)
-shown-same false u v h = refl
-
--- a value more, from P_(i + 1), from whom none was received
-noted-all : {X : Type 0} (i : ℕ) (v : X) (f g : ℕ → Option X) → g zero ≡ f zero → f (suc i) ≡ none → g (suc i) ≡ some v
-    → ((j : ℕ) → (j ≡ i → ⊥) → g (suc j) ≡ f (suc j)) → (k : ℕ) → g k ≡ noted (suc i) v f k
-unfolding noted first pick
-noted-all i v f g e0 out new old zero = rw (eqb·zero-suc i) e0
-noted-all {X} i v f g e0 out new old (suc j) = rw (eqb·suc-suc j i) (go (eqb j i) refl)
-  where
-    go : (c : Bool) → eqb j i ≡ c → g (suc j) ≡ pick c (first (f (suc j)) v) (f (suc j))
-    go true e = let z : j ≡ i = eqb-true j i e in rw (z, out) new
-    go false e = old j (eqb-false j i e)
 
 -- the length kept of an echo that was heard is at most s_max
 kept-short : (u e : Bool) (l max : ℕ) → ((not u || e) && pick e (leb 1 l && leb l max) (eqb l 0)) ≡ true → e ≡ true → l ≤ max
@@ -99,57 +79,44 @@ module _ (b : Table) (m0 : Marks) (s : List ℕ) (i : ℕ) (old : Sounds (viewOf
     usable-old true j ne = has-old (m0 .usable) i j ne
     usable-old false j ne = refl
 
-    abbrev before : ℕ → Option Echo
-    before = echoIn (sMax b) (m0 .echoes) (m0 .usable) s
-
-    abbrev after : ℕ → Option Echo
-    after = echoIn (sMax b) (bitOr (m0 .echoes) (2 ^ i)) usable1 s1
-
     abbrev received : Echo
     received = record { root = p .root; fragment = p .fragment; usable = good }
 
-    echo-first : before (suc i) ≡ none
-    unfolding echoIn pick
-    echo-first = rw out
-
-    echo-there : after (suc i) ≡ some received
-    unfolding echoIn pick
-    echo-there =
+    echo-here : keptEcho (sMax b) usable1 s1 i ≡ received
+    echo-here =
         rw (
-          has-new (m0 .echoes) i,
           usable-new good,
           echo-new (sMax b) i f (p .root) (p .fragment) s place lr lf hf small long room,
           fragment-new (sMax b) i f (p .root) (p .fragment) s place lr lf hf small long room,
         )
 
-    echo-others : (j : ℕ) → (j ≡ i → ⊥) → after (suc j) ≡ before (suc j)
-    unfolding echoIn
-    echo-others j ne =
-        rw (has-old (m0 .echoes) i j ne)
-        (shown-same (has (m0 .echoes) j) _ _
-        (λ e.
+    echo-others : (j : ℕ) → (j ≡ i → ⊥) → has (m0 .echoes) j ≡ true → keptEcho (sMax b) usable1 s1 j ≡ keptEcho (sMax b) (m0 .usable) s j
+    echo-others j ne e =
         let l = echo-low j e in
         rw (
           usable-old good j ne,
           echo-old (sMax b) i f (p .root) (p .fragment) s place lr lf hf small long room j l ne,
           fragment-old (sMax b) i f (p .root) (p .fragment) s place lr lf hf small long room j l ne (short j e),
-        )))
+        )
 
-    votes-stay : (k : ℕ) → voteIn (m0 .votes) s1 k ≡ voteIn (m0 .votes) s k
-    unfolding voteIn
-    votes-stay zero = refl
-    votes-stay (suc j) =
-        shown-same (has (m0 .votes) j) _ _ (λ e. echo-votes (sMax b) i f (p .root) (p .fragment) s place lr lf hf small long room j (vote-low j e))
+    echoes-more : (k : ℕ) → shown (bitOr (m0 .echoes) (2 ^ i)) (keptEcho (sMax b) usable1 s1) k
+        ≡ noted (suc i) received (shown (m0 .echoes) (keptEcho (sMax b) (m0 .usable) s)) k
+    echoes-more = shown-more (m0 .echoes) i (keptEcho (sMax b) (m0 .usable) s) (keptEcho (sMax b) usable1 s1) received out echo-here echo-others
+
+    votes-stay : (k : ℕ) → shown (m0 .votes) (keptVote s1) k ≡ shown (m0 .votes) (keptVote s) k
+    votes-stay =
+        shown-same (m0 .votes) (keptVote s1) (keptVote s)
+        (λ j e. echo-votes (sMax b) i f (p .root) (p .fragment) s place lr lf hf small long room j (vote-low j e))
 
     pub echo-received : figureIn b (marked 2 i (correct b (suc i) p) m0) s1 ≡ receive b (suc i) (echo p) (figureIn b m0 s)
-    unfolding marked receive pick echoIn
+    unfolding marked receive pick
     echo-received = λ j. record {
       acquired = or-false (m0 .acquired) j;
       voted = m0 .voted;
       output = m0 .output;
       done = m0 .done;
       sent = none;
-      echoOf = λ k. noted-all i received before after refl echo-first echo-there echo-others k j;
+      echoOf = λ k. echoes-more k j;
       voteOf = λ k. votes-stay k j;
     }
 
@@ -159,24 +126,13 @@ module _ (b : Table) (m0 : Marks) (s : List ℕ) (i : ℕ) (old : Sounds (viewOf
     abbrev s3 : List ℕ
     s3 = put (voteAt i) root s
 
-    vote-first : voteIn (m0 .votes) s (suc i) ≡ none
-    unfolding voteIn pick
-    vote-first = rw out
+    votes-more : (k : ℕ) → shown (bitOr (m0 .votes) (2 ^ i)) (keptVote s3) k ≡ noted (suc i) root (shown (m0 .votes) (keptVote s)) k
+    votes-more = shown-more (m0 .votes) i (keptVote s) (keptVote s3) root out (vote-new i root s place lr long) (λ j ne e. vote-old i root s place lr long j ne)
 
-    vote-there : voteIn (bitOr (m0 .votes) (2 ^ i)) s3 (suc i) ≡ some root
-    unfolding voteIn pick
-    vote-there = rw (has-new (m0 .votes) i, vote-new i root s place lr long)
-
-    vote-others : (j : ℕ) → (j ≡ i → ⊥) → voteIn (bitOr (m0 .votes) (2 ^ i)) s3 (suc j) ≡ voteIn (m0 .votes) s (suc j)
-    unfolding voteIn
-    vote-others j ne = rw (has-old (m0 .votes) i j ne, vote-old i root s place lr long j ne)
-
-    echoes-stay : (k : ℕ) → echoIn (sMax b) (m0 .echoes) (m0 .usable) s3 k ≡ echoIn (sMax b) (m0 .echoes) (m0 .usable) s k
-    unfolding echoIn
-    echoes-stay zero = refl
-    echoes-stay (suc j) =
-        shown-same (has (m0 .echoes) j) _ _
-        (λ e.
+    echoes-stay : (k : ℕ) → shown (m0 .echoes) (keptEcho (sMax b) (m0 .usable) s3) k ≡ shown (m0 .echoes) (keptEcho (sMax b) (m0 .usable) s) k
+    echoes-stay =
+        shown-same (m0 .echoes) (keptEcho (sMax b) (m0 .usable) s3) (keptEcho (sMax b) (m0 .usable) s)
+        (λ j e.
         let l = echo-low j e in
         rw (
           vote-echoes i root s place lr long j l,
@@ -185,7 +141,7 @@ module _ (b : Table) (m0 : Marks) (s : List ℕ) (i : ℕ) (old : Sounds (viewOf
         ))
 
     pub vote-received : figureIn b (marked 3 i ok m0) s3 ≡ receive b (suc i) (vote root) (figureIn b m0 s)
-    unfolding marked receive pick voteIn
+    unfolding marked receive pick
     vote-received = λ j. record {
       acquired = or-false (m0 .acquired) j;
       voted = m0 .voted;
@@ -193,7 +149,7 @@ module _ (b : Table) (m0 : Marks) (s : List ℕ) (i : ℕ) (old : Sounds (viewOf
       done = m0 .done;
       sent = none;
       echoOf = λ k. echoes-stay k j;
-      voteOf = λ k. noted-all i root (voteIn (m0 .votes) s) (voteIn (bitOr (m0 .votes) (2 ^ i)) s3) refl vote-first vote-there vote-others k j;
+      voteOf = λ k. votes-more k j;
     }
 
 -- ---- a send, acted on
@@ -206,8 +162,8 @@ send-acquired b m0 s i ok = λ j. record {
   output = m0 .output;
   done = m0 .done;
   sent = none;
-  echoOf = echoIn (sMax b) (m0 .echoes) (m0 .usable) s;
-  voteOf = voteIn (m0 .votes) s;
+  echoOf = figureIn b m0 s .echoOf;
+  voteOf = figureIn b m0 s .voteOf;
 }
 
 -- ---- the marks' write
@@ -216,20 +172,16 @@ module _ (m : Marks) (s : List ℕ) (max : ℕ) where
   abbrev s2 : List ℕ
   s2 = put 6 (marksBytes m) s
 
-  echoes-kept : (b : Table) (k : ℕ) → echoIn max (m .echoes) (m .usable) s2 k ≡ echoIn max (m .echoes) (m .usable) s k
-  unfolding echoIn
-  echoes-kept b zero = refl
-  echoes-kept b (suc i) =
+  echoes-kept : (b : Table) (k : ℕ) → shown (m .echoes) (keptEcho max (m .usable) s2) k ≡ shown (m .echoes) (keptEcho max (m .usable) s) k
+  echoes-kept b =
+      shown-same (m .echoes) (keptEcho max (m .usable) s2) (keptEcho max (m .usable) s)
+      (λ i e.
       let root : part (echoAt i) 32 s2 ≡ part (echoAt i) 32 s = ap (λ v. v .echoRoot i) (rest-kept m s b m) in
       let len : twoAt s2 (lenAt i) ≡ twoAt s (lenAt i) = ap (λ v. v .len i) (rest-kept m s b m) in
-      rw (root, len, fragment-kept m s (fragmentAt max i) (twoAt s (lenAt i)) (omega arith))
+      rw (root, len, fragment-kept m s (fragmentAt max i) (twoAt s (lenAt i)) (omega arith)))
 
-  votes-kept : (b : Table) (k : ℕ) → voteIn (m .votes) s2 k ≡ voteIn (m .votes) s k
-  unfolding voteIn
-  votes-kept b zero = refl
-  votes-kept b (suc i) =
-      let root : part (voteAt i) 32 s2 ≡ part (voteAt i) 32 s = ap (λ v. v .voteRoot i) (rest-kept m s b m) in
-      rw root
+  votes-kept : (b : Table) (k : ℕ) → shown (m .votes) (keptVote s2) k ≡ shown (m .votes) (keptVote s) k
+  votes-kept b = shown-same (m .votes) (keptVote s2) (keptVote s) (λ i e. ap (λ v. v .voteRoot i) (rest-kept m s b m))
 
 pub figure-marks : (m : Marks) (s : List ℕ) → fixedBytes ≤ length s → Fit m → figureOf (put 6 (marksBytes m) s) ≡ figureIn (tableOf s) m s
 figure-marks m s h f =

@@ -32,9 +32,24 @@ use Rattle.deliver.proofs.Lengths.{lengths-at, at-lengths}
 use Rattle.deliver.proofs.Results.{result-same}
 use Rattle.board_step.specs.Step.{usableFor, keptOf, resultIn}
 use Rattle.board_step.proofs.Due.{usable-few, usable-in}
-use Rattle.board_figure.specs.Figure.{Echo, Figure, parties, usables, usableEcho, echoFragment, lowest, rootAfresh, Output, message, other-root, unequal, unreadable, OutputFor}
-use Rattle.board_figure.specs.Shown.{echoIn, figureIn}
-use Rattle.board_figure.proofs.Counts.{clash, fails}
+use Rattle.board_figure.specs.Figure.{
+  Echo,
+  Figure,
+  usables,
+  usableEcho,
+  echoFragment,
+  lowest,
+  rootAfresh,
+  Output,
+  message,
+  other-root,
+  unequal,
+  unreadable,
+  OutputFor,
+}
+use Rattle.board_figure.specs.Shown.{keptEcho, figureIn}
+use Rattle.figure.specs.Received.{parties, shown}
+use Rattle.figure.proofs.Counts.{clash, fails}
 use Rattle.board_figure.proofs.Seen.{Heard, usables-seen}
 
 -- fragments that do not all have len bytes: one has not
@@ -132,8 +147,9 @@ module _ (b : Table) (lim : limits b ≡ true) (x : Figure) (r : List ℕ) (enou
 
 -- ---- in a board's bytes
 
-fragment-in : (max echoes usable : ℕ) (s : List ℕ) (i : ℕ) → has echoes i ≡ true → echoFragment (echoIn max echoes usable s (suc i)) ≡ keptOf max s (suc i)
-unfolding echoFragment echoIn keptOf pick
+fragment-in : (max echoes usable : ℕ) (s : List ℕ) (i : ℕ) → has echoes i ≡ true
+    → echoFragment (shown echoes (keptEcho max usable s) (suc i)) ≡ keptOf max s (suc i)
+unfolding echoFragment shown keptOf pick
 fragment-in max echoes usable s i e = let z : suc i - 1 ≡ i = omega arith in rw (z, e)
 
 small-if : (c : Bool) (e : Echo) → All Byte (e .fragment) → (d : ℕ) → getD (echoFragment (pick c (some e) none)) d 0 < 256
@@ -141,10 +157,10 @@ unfolding echoFragment pick
 small-if true e h d = byte-at (e .fragment) h d
 small-if false e h d = omega arith
 
-fragment-small : (max echoes usable : ℕ) (s : List ℕ) → All Byte s → (i d : ℕ) → getD (echoFragment (echoIn max echoes usable s i)) d 0 < 256
-unfolding echoIn echoFragment
+fragment-small : (max echoes usable : ℕ) (s : List ℕ) → All Byte s → (i d : ℕ) → getD (echoFragment (shown echoes (keptEcho max usable s) i)) d 0 < 256
+unfolding shown echoFragment
 fragment-small max echoes usable s h zero d = omega arith
-fragment-small max echoes usable s h (suc i) d = small-if (has echoes i) _ (part-bytes (fragmentAt max i) (twoAt s (lenAt i)) s h) d
+fragment-small max echoes usable s h (suc i) d = small-if (has echoes i) (keptEcho max usable s i) (part-bytes (fragmentAt max i) (twoAt s (lenAt i)) s h) d
 
 module _ (b : Table) (m : Marks) (s : List ℕ) (lim : limits b ≡ true) (h : Heard b m) where
   -- what the step delivers is figure 5's output

@@ -16,8 +16,10 @@ use Rattle.state.specs.Sound.{usableOk, lengthOk, boardOk, naming}
 use Rattle.state.specs.declared.Marks.{Marks}
 use Rattle.octets.proofs.Members.{setOf-ext}
 use Rattle.state.proofs.Facts.{Sounds}
-use Rattle.board_figure.specs.Figure.{parties, echoFor, usableEcho, voteFor, echoing, usables, voting}
-use Rattle.board_figure.specs.Shown.{echoIn, voteIn, figureIn}
+use Rattle.figure.specs.Received.{parties, shown}
+use Rattle.figure.proofs.Counts.{parties-seen}
+use Rattle.board_figure.specs.Figure.{echoFor, usableEcho, echoing, usables, voting}
+use Rattle.board_figure.specs.Shown.{keptEcho, keptVote, figureIn}
 
 echo-seen : (c u : Bool) (root fragment r : List ℕ)
     → echoFor r (pick c (some (record { root = root; fragment = fragment; usable = u })) none) ≡ (c && same root r)
@@ -31,11 +33,6 @@ unfolding usableEcho pick
 usable-seen true u root fragment r h = refl
 usable-seen false true root fragment r h = never (h refl)
 usable-seen false false root fragment r h = refl
-
-vote-seen : (c : Bool) (root r : List ℕ) → voteFor r (pick c (some root) none) ≡ (c && same root r)
-unfolding voteFor pick
-vote-seen true root r = refl
-vote-seen false root r = refl
 
 -- "usable is within echoes heard"
 abbrev pub Heard : Table → Marks → Type 0
@@ -53,19 +50,16 @@ heard b m s f j h u =
 
 module _ (b : Table) (m : Marks) (s : List ℕ) where
   pub echoing-seen : (r : List ℕ) → echoing b (figureIn b m s) r ≡ naming (b .n) (m .echoes) (λ j. part (echoAt j) 32 s) r
-  unfolding parties naming echoIn
+  unfolding parties naming shown
   echoing-seen r =
-      setOf-ext (λ i. echoFor r (echoIn (sMax b) (m .echoes) (m .usable) s (suc i))) (λ i. has (m .echoes) i && same (part (echoAt i) 32 s) r) 0 (b .n)
+      setOf-ext (λ i. echoFor r (shown (m .echoes) (keptEcho (sMax b) (m .usable) s) (suc i))) (λ i. has (m .echoes) i && same (part (echoAt i) 32 s) r) 0 (b .n)
       (λ i l. echo-seen (has (m .echoes) i) (has (m .usable) i) (part (echoAt i) 32 s) _ r)
 
   pub usables-seen : Heard b m → (r : List ℕ) → usables b (figureIn b m s) r ≡ naming (b .n) (m .usable) (λ j. part (echoAt j) 32 s) r
-  unfolding parties naming echoIn
+  unfolding parties naming shown
   usables-seen h r =
-      setOf-ext (λ i. usableEcho r (echoIn (sMax b) (m .echoes) (m .usable) s (suc i))) (λ i. has (m .usable) i && same (part (echoAt i) 32 s) r) 0 (b .n)
+      setOf-ext (λ i. usableEcho r (shown (m .echoes) (keptEcho (sMax b) (m .usable) s) (suc i))) (λ i. has (m .usable) i && same (part (echoAt i) 32 s) r) 0 (b .n)
       (λ i l. usable-seen (has (m .echoes) i) (has (m .usable) i) (part (echoAt i) 32 s) _ r (h i (omega arith)))
 
   pub voting-seen : (r : List ℕ) → voting b (figureIn b m s) r ≡ naming (b .n) (m .votes) (λ j. part (voteAt j) 32 s) r
-  unfolding parties naming voteIn
-  voting-seen r =
-      setOf-ext (λ i. voteFor r (voteIn (m .votes) s (suc i))) (λ i. has (m .votes) i && same (part (voteAt i) 32 s) r) 0 (b .n)
-      (λ i l. vote-seen (has (m .votes) i) (part (voteAt i) 32 s) r)
+  voting-seen = parties-seen b (m .votes) (keptVote s)

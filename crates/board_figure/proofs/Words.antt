@@ -1,7 +1,7 @@
--- An echo or a vote, once it is kept: what a step then does is what figure 5 fires; and what is put out and delivered, as events.
+-- An echo or a vote, once it is kept: what a step then does is what figure 5 fires; and what is put out.
 use mathlib.Core.Path.{_≡_, refl, sym, subst, _∙_}
 use Prim.Native.Nat.{ℕ, _+_, _-_, _*_, _/_, _≤_}
-use mathlib.Core.List.{List, [], _∷_, _++_, append-nil}
+use mathlib.Core.List.{List, _++_}
 use mathlib.Core.Bool.{Bool, true, false, not, _&&_, _||_}
 use mathlib.Core.Option.{Option, none}
 use native.Mathlib.Omega.{arith}
@@ -9,67 +9,46 @@ use borrow.Author.Tests.{leb-true}
 use lib.Count.{ones}
 use lib.Dec.{leb}
 use lib.ListN.{length}
-use Rattle.octets.specs.Bytes.{pick, part, put}
+use Rattle.octets.specs.Bytes.{pick, part}
 use Rattle.octets.proofs.Picks.{and-l, and-r, never}
 use Rattle.table.specs.Table.{kOf, mostOf, someOf}
 use Rattle.table.specs.declared.Table.{Table}
 use Rattle.code.specs.Code.{All, Byte}
-use Rattle.record.specs.Form.{recordOf}
 use Rattle.state.specs.State.{viewOf, echoAt, voteAt}
 use Rattle.state.specs.Sound.{flagsOk, naming}
 use Rattle.state.specs.declared.Marks.{Marks}
 use Rattle.state.proofs.Facts.{Sounds}
 use Rattle.board.specs.Stepped.{recordRoot, recordPath, voteDue, won, enoughUsable, votedNow, outputNow, endsNow, withFlags, settledTo}
-use Rattle.deliver.specs.Delivered.{Left}
-use Rattle.board_step.specs.Step.{outcome, stepped, putOut, resultIn, delivered}
+use Rattle.board_step.specs.Step.{putOut, resultIn}
 use Rattle.board_step.proofs.Due.{usable-enough}
-use Rattle.board_figure.specs.Figure.{Piece, echo, vote, Event, sends, outputs, Figure, echoing, usables, voting, turned, Still, Fires}
-use Rattle.board_figure.specs.Shown.{figureIn, pieceOf, asRecord, sentBy, outputBy, answered}
+use Rattle.figure.specs.Acts.{sentBy}
+use Rattle.figure.proofs.Acts.{sendIf, outputIf, word-sent, send-sent}
+use Rattle.figure.specs.Fires.{Still, Fires}
+use Rattle.board_figure.specs.Figure.{echo, vote, Figure, echoing, usables, voting, turned, Branch}
+use Rattle.board_figure.specs.Shown.{figureIn, pieceOf, asRecord}
 use Rattle.board_figure.proofs.Seen.{Heard, heard, echoing-seen, usables-seen, voting-seen}
 use Rattle.board_figure.proofs.Overdue.{still-of}
 use Rattle.board_figure.proofs.Results.{output-seen}
 use Rattle.board_figure.proofs.Reaching.{reaches}
 
--- ---- what is put out and delivered, as events
+-- ---- what is put out
 
-abbrev pub voteIf : Bool → List ℕ → List Event
-voteIf c root = pick c (sends (vote root) ∷ []) []
+abbrev pub asIs : Option (List ℕ) → Option (List ℕ)
+asIs x = x
 
-abbrev pub outputIf : Bool → Option (List ℕ) → List Event
-outputIf c result = pick c (outputs result ∷ []) []
+pub vote-put-out : (a c : Bool) (result : Option (List ℕ)) (p f : ℕ) (r : List ℕ)
+    → sentBy asRecord asIs (sendIf a (vote (recordRoot r)) ++ outputIf c result) ≡ putOut false a p f r
+unfolding putOut pick
+vote-put-out a c result p f r = word-sent asRecord asIs a c (vote (recordRoot r)) result
 
-pub word-sent : (a c : Bool) (result : Option (List ℕ)) (p f : ℕ) (r : List ℕ) → sentBy (voteIf a (recordRoot r) ++ outputIf c result) ≡ putOut false a p f r
+pub echo-put-out : (c v : Bool) (p f : ℕ) (r : List ℕ) → length (recordPath p r) ≡ 32 * p
+    → sentBy asRecord asIs (sendIf c (echo (pieceOf p f r))) ≡ putOut c (not v && (v || false)) p f r
 unfolding pick putOut
-word-sent true true result p f r = append-nil (recordOf 3 (recordRoot r) 0 [] [])
-word-sent true false result p f r = append-nil (recordOf 3 (recordRoot r) 0 [] [])
-word-sent false true result p f r = refl
-word-sent false false result p f r = refl
-
-pub word-output : (a c : Bool) (root : List ℕ) (result : Option (List ℕ)) (d : List ℕ) → outputBy (voteIf a root ++ outputIf c result) d ≡ delivered c result d
-unfolding pick delivered
-word-output true true root result d = refl
-word-output true false root result d = refl
-word-output false true root result d = refl
-word-output false false root result d = refl
-
-pub send-sent : (c v : Bool) (p f : ℕ) (r : List ℕ) → length (recordPath p r) ≡ 32 * p
-    → sentBy (pick c (sends (echo (pieceOf p f r)) ∷ []) []) ≡ putOut c (not v && (v || false)) p f r
-unfolding pick putOut
-send-sent true v p f r e =
+echo-put-out true v p f r e =
     let z : length (recordPath p r) / 32 ≡ p = omega arith in
-    append-nil (asRecord (echo (pieceOf p f r))) ∙ rw z
-send-sent false true p f r e = refl
-send-sent false false p f r e = refl
-
-pub send-output : (c : Bool) (q : Piece) (result : Option (List ℕ)) (d : List ℕ) → outputBy (pick c (sends (echo q) ∷ []) []) d ≡ delivered false result d
-unfolding pick delivered
-send-output true q result d = refl
-send-output false q result d = refl
-
-pub answers : (es : List Event) (w : List ℕ) (x : Left) (s o d : List ℕ) → sentBy es ≡ w → outputBy es d ≡ x
-    → outcome (stepped (length w) (x .kind) (x .size)) s (put 0 w o) (x .buffer) ≡ answered es s o d
-unfolding answered
-answers es w x s o d e g = rw (e, g)
+    send-sent asRecord asIs true (echo (pieceOf p f r)) ∙ rw z
+echo-put-out false true p f r e = refl
+echo-put-out false false p f r e = refl
 
 -- ---- an echo or a vote for a root: marks m and bytes s once it is kept
 
@@ -126,8 +105,8 @@ module _ (b : Table) (own : ℕ) (m : Marks) (s root : List ℕ) (f : Sounds (vi
     voteOf = x .voteOf;
   }
 
-  turns : All Byte s → Fires b own (turned x (m .voted) (m .output) false)
-      (voteIf (not (m .voted) && votedNow b true m s root) root ++ outputIf (endsNow b true m s root) (resultIn b m s root))
+  turns : All Byte s → Fires (Branch b own) (turned x (m .voted) (m .output) false)
+      (sendIf (not (m .voted) && votedNow b true m s root) (vote root) ++ outputIf (endsNow b true m s root) (resultIn b m s root))
       (turned x (votedNow b true m s root) (outputNow b true m s root) (endsNow b true m s root))
   unfolding votedNow outputNow endsNow voteDue won
   turns bytes =
@@ -135,7 +114,7 @@ module _ (b : Table) (own : ℕ) (m : Marks) (s root : List ℕ) (f : Sounds (vi
       (λ e. output-seen b m s (f .lim) words-heard bytes root (usable-enough b m s root e)) (m .voted) (m .output)
       (leb (mostOf b) (ones (naming (b .n) (m .echoes) (λ j. part (echoAt j) 32 s) root)))
       (leb (someOf b) (ones (naming (b .n) (m .votes) (λ j. part (voteAt j) 32 s) root))) flags by-echoes (by-votes (someOf b)) (won b m s root) (enoughUsable b m s root)
-      refl refl (subst (Still b own) end-same (still-of b after s f own))
+      refl refl (subst (Still (Branch b own)) end-same (still-of b after s f own))
 
   ends-enough : endsNow b true m s root ≡ true → enoughUsable b m s root ≡ true
   unfolding endsNow
@@ -146,9 +125,9 @@ module _ (b : Table) (own : ℕ) (m : Marks) (s root : List ℕ) (f : Sounds (vi
   unfolding endsNow won
   ends-counts e = (by-votes (mostOf b) (and-l (won b m s root) (enoughUsable b m s root) (and-r (outputNow b true m s root) _ e)), by-usables (ends-enough e))
 
-  pub word-fires : All Byte s → Fires b own x (voteIf (not (m .voted) && votedNow b true m s root) root ++ outputIf (endsNow b true m s root) (resultIn b m s root)) (figureIn b after s)
+  pub word-fires : All Byte s → Fires (Branch b own) x (sendIf (not (m .voted) && votedNow b true m s root) (vote root) ++ outputIf (endsNow b true m s root) (resultIn b m s root)) (figureIn b after s)
   word-fires bytes =
-      subst (λ (i : Figure). Fires b own i (voteIf (not (m .voted) && votedNow b true m s root) root ++ outputIf (endsNow b true m s root) (resultIn b m s root)) (figureIn b after s))
+      subst (λ (i : Figure). Fires (Branch b own) i (sendIf (not (m .voted) && votedNow b true m s root) (vote root) ++ outputIf (endsNow b true m s root) (resultIn b m s root)) (figureIn b after s))
       (sym start-same)
-      (subst (λ (i : Figure). Fires b own (turned x (m .voted) (m .output) false)
-      (voteIf (not (m .voted) && votedNow b true m s root) root ++ outputIf (endsNow b true m s root) (resultIn b m s root)) i) (sym end-same) (turns bytes))
+      (subst (λ (i : Figure). Fires (Branch b own) (turned x (m .voted) (m .output) false)
+      (sendIf (not (m .voted) && votedNow b true m s root) (vote root) ++ outputIf (endsNow b true m s root) (resultIn b m s root)) i) (sym end-same) (turns bytes))

@@ -1,17 +1,18 @@
 -- Figure 5 of the broadcast paper (source document 000), "Receiving party P_j", as a definition of its own: what it has received, and its
 -- guarded branches. The quoted words are the figure's, in its order; document 01 departs from it in four places, marked "departure".
-use Prim.Native.Nat.{ℕ, suc, _≤_, _<_}
+use Prim.Native.Nat.{ℕ, _≤_, _<_}
 use mathlib.Core.Path.{_≡_}
-use mathlib.Core.List.{List, [], _∷_, _++_}
+use mathlib.Core.List.{List, [], _∷_}
 use mathlib.Core.Bool.{Bool, true, false, _&&_}
 use mathlib.Core.Option.{Option, none, some}
 use lib.Count.{ones}
 use lib.Dec.{eqb}
 use lib.ListN.{length, getD, take}
 use Rattle.octets.specs.Bytes.{pick, same}
-use Rattle.octets.specs.Sets.{setOf}
 use Rattle.table.specs.Table.{kOf, mostOf, someOf}
 use Rattle.table.specs.declared.Table.{Table}
+use Rattle.figure.specs.Acts.{Act, sends, outputs}
+use Rattle.figure.specs.Received.{noted, parties, partiesFor}
 use Rattle.tree.specs.Check.{pathCorrect}
 use Rattle.tree.specs.Tree.{rootOf}
 use Rattle.code.specs.Block.{readable, blockMessage}
@@ -34,9 +35,8 @@ pub data Message : Type 0 where
   vote : List ℕ → Message
 
 -- "send .. to P_1, .., P_n"; "output m'", or none for "output ⊥"
-pub data Event : Type 0 where
-  sends : Message → Event
-  outputs : Option (List ℕ) → Event
+abbrev pub Event : Type 0
+Event = Act Message (Option (List ℕ))
 
 -- "π_i is a correct validation path for f_i under r at i"
 abbrev pub correct : Table → ℕ → Piece → Bool
@@ -62,16 +62,7 @@ pub record Figure : Type 0 where
 abbrev pub begins : Figure
 begins = record { acquired = false; voted = false; output = false; done = false; sent = none; echoOf = λ i. none; voteOf = λ i. none }
 
--- departure: "only the first echo and vote of a board count"
-unfoldable pub first : {X : Type 0} → Option X → X → Option X
-first none v = some v
-first (some u) v = some u
-
--- with v received from P_i
-unfoldable pub noted : {X : Type 0} → ℕ → X → (ℕ → Option X) → ℕ → Option X
-noted i v f j = pick (eqb j i) (first (f j) v) (f j)
-
--- "received .. from P_i": a message of P_i is there
+-- "received .. from P_i": a message of P_i is there; departure: "only the first echo and vote of a board count"
 unfoldable pub receive : Table → ℕ → Message → Figure → Figure
 receive b i (send p) x = record {
   acquired = x .acquired;
@@ -103,11 +94,7 @@ receive b i (vote r) x = record {
 
 -- ---- "for some r: received .. from .. distinct parties"
 
--- the parties of which a test holds, P_i as bit i - 1: distinct parties are the ones of such a set
-unfoldable pub parties : Table → (ℕ → Bool) → ℕ
-parties b P = setOf (λ i. P (suc i)) 0 (b .n)
-
--- whether what was received from a party is an echo for r, a usable one, a vote for r
+-- whether what was received from a party is an echo for r, a usable one
 unfoldable pub echoFor : List ℕ → Option Echo → Bool
 echoFor r none = false
 echoFor r (some e) = same (e .root) r
@@ -115,10 +102,6 @@ echoFor r (some e) = same (e .root) r
 unfoldable pub usableEcho : List ℕ → Option Echo → Bool
 usableEcho r none = false
 usableEcho r (some e) = e .usable && same (e .root) r
-
-unfoldable pub voteFor : List ℕ → Option (List ℕ) → Bool
-voteFor r none = false
-voteFor r (some q) = same q r
 
 -- "received (echo, r, ·, ·) from" these
 abbrev pub echoing : Table → Figure → List ℕ → ℕ
@@ -130,7 +113,7 @@ usables b x r = parties b (λ i. usableEcho r (x .echoOf i))
 
 -- "received (vote, r) from" these
 abbrev pub voting : Table → Figure → List ℕ → ℕ
-voting b x r = parties b (λ i. voteFor r (x .voteOf i))
+voting b x r = partiesFor b (x .voteOf) r
 
 -- ---- the branches
 
@@ -211,12 +194,3 @@ pub data Branch (b : Table) (own : ℕ) (x : Figure) : List Event → Figure →
   -- validation path .. output .. done ← true"; r is the root with n - t votes: it keeps them, and no other has them (one-root, proofs/Counts)
   delivers : (r : List ℕ) (m : Option (List ℕ)) → At true x → mostOf b ≤ ones (voting b x r) → kOf b ≤ ones (usables b x r) → OutputFor b x r m
       → Branch b own x (outputs m ∷ []) (turned x (x .voted) (x .output) true)
-
--- no branch is enabled
-abbrev pub Still : Table → ℕ → Figure → Type 0
-Still b own x = (es : List Event) (y : Figure) → Branch b own x es y → ⊥
-
--- every branch that is enabled fires until none is: from x to y, and all that is sent or output on the way
-pub data Fires (b : Table) (own : ℕ) : Figure → List Event → Figure → Type 0 where
-  rests : {x : Figure} → Still b own x → Fires b own x [] x
-  goes : {x y z : Figure} {es fs : List Event} → Branch b own x es y → Fires b own y fs z → Fires b own x (es ++ fs) z

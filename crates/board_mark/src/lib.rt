@@ -1,8 +1,8 @@
 // A board's marks: whether they know a record already, what they are once it is taken, and what is then due.
-use state::ECHO_ROOTS;
+use naming::naming_count;
+use state::ECHO_PLACES;
 use state::Marks;
-use state::VOTE_ROOTS;
-use state::naming_count;
+use state::VOTE_PLACES;
 use table::Table;
 use table::fragments_needed;
 use table::has_board;
@@ -30,7 +30,7 @@ pub fn again(m: Marks, i: usize, kind: u8) -> bool
 }
 
 // The set with board i + 1, if `on`.
-fn joined(set: u64, i: usize, on: bool) -> u64
+pub fn joined(set: u64, i: usize, on: bool) -> u64
     requires { ⌜ i < 64 ⌝ }
     ensures { λ r. ⌜ r ≡ pick on (bitOr set (2 ^ i)) set ⌝ }
 {
@@ -38,7 +38,7 @@ fn joined(set: u64, i: usize, on: bool) -> u64
 }
 
 // Whether one of two tests holds.
-fn either(a: bool, b: bool) -> bool
+pub fn either(a: bool, b: bool) -> bool
     ensures { λ r. ⌜ r ≡ (a || b) ⌝ }
 {
     if a { true } else { b }
@@ -72,10 +72,10 @@ pub fn is_due(s: &[u8], b: Table, m: Marks, r: &[u8]) -> bool
     requires { ⌜ (fixedBytes ≤ length (now s)) × ((limits b ≡ true) × (35 ≤ length (now r))) ⌝ }
     ensures { λ x. ⌜ x ≡ voteDue b m (now (s .entry)) (recordRoot (now (r .entry))) ⌝ }
 {
-    if b.n - b.t <= naming_count(s, ECHO_ROOTS, m.echoes, r, 3, b.n) {
+    if b.n - b.t <= naming_count(s, ECHO_PLACES, m.echoes, r, 3, b.n) {
         return true;
     }
-    b.t + 1 <= naming_count(s, VOTE_ROOTS, m.votes, r, 3, b.n)
+    b.t + 1 <= naming_count(s, VOTE_PLACES, m.votes, r, 3, b.n)
 }
 
 // Whether n - t votes name it.
@@ -83,7 +83,7 @@ pub fn is_won(s: &[u8], b: Table, m: Marks, r: &[u8]) -> bool
     requires { ⌜ (fixedBytes ≤ length (now s)) × ((limits b ≡ true) × (35 ≤ length (now r))) ⌝ }
     ensures { λ x. ⌜ x ≡ won b m (now (s .entry)) (recordRoot (now (r .entry))) ⌝ }
 {
-    b.n - b.t <= naming_count(s, VOTE_ROOTS, m.votes, r, 3, b.n)
+    b.n - b.t <= naming_count(s, VOTE_PLACES, m.votes, r, 3, b.n)
 }
 
 // Whether k usable echoes name it.
@@ -91,7 +91,7 @@ pub fn is_enough(s: &[u8], b: Table, m: Marks, r: &[u8]) -> bool
     requires { ⌜ (fixedBytes ≤ length (now s)) × ((limits b ≡ true) × (35 ≤ length (now r))) ⌝ }
     ensures { λ x. ⌜ x ≡ enoughUsable b m (now (s .entry)) (recordRoot (now (r .entry))) ⌝ }
 {
-    fragments_needed(b) <= naming_count(s, ECHO_ROOTS, m.usable, r, 3, b.n)
+    fragments_needed(b) <= naming_count(s, ECHO_PLACES, m.usable, r, 3, b.n)
 }
 
 // Whether the board has voted, or votes now; `word` says whether the record is an echo or a vote.

@@ -23,7 +23,7 @@ ghost use Rattle.state.specs.State.{fixedBytes, tableOf, marksOf};
 ghost use Rattle.board.specs.Planned.{isShort, isStray, isLate, byMarks, byBoard, afterBuffers, planOf};
 
 // Whether it is a send from a board other than S.
-fn stray(b: Table, from: usize, kind: u8) -> bool
+pub fn stray(b: Table, from: usize, kind: u8) -> bool
     ensures { λ r. ⌜ r ≡ isStray b from kind ⌝ }
 {
     if kind == 1 { from != b.sender } else { false }

@@ -80,7 +80,7 @@ module _ (s : List ℕ) (from : ℕ) (r o d : List ℕ) where
 
 -- ---- table, own number, lengths and soundness stay
 
-delivered-length : (e : Bool) (x : Option (List ℕ)) (d : List ℕ) → length (delivered e x d .buffer) ≡ length d
+pub delivered-length : (e : Bool) (x : Option (List ℕ)) (d : List ℕ) → length (delivered e x d .buffer) ≡ length d
 unfolding delivered leftBy pick
 delivered-length false x d = refl
 delivered-length true none d = refl

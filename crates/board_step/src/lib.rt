@@ -7,11 +7,11 @@ use board_mark::mark;
 use board_mark::settle;
 use deliver::Delivered;
 use deliver_output::deliver;
-use state::ECHO_ROOTS;
+use naming::naming_set;
+use state::ECHO_PLACES;
 use state::FIXED_BYTES;
 use state::KEPT_LENGTHS;
 use state::Marks;
-use state::naming_set;
 use state::read_marks;
 use state::read_own;
 use state::read_table;
@@ -90,7 +90,7 @@ fn deliver_due(s: &[u8], b: Table, m: Marks, r: &[u8], ends: bool, delivery: &mu
     if !ends {
         return Delivered { kind: 0, length: 0 };
     }
-    let set = naming_set(s, ECHO_ROOTS, m.usable, r, 3, b.n);
+    let set = naming_set(s, ECHO_PLACES, m.usable, r, 3, b.n);
     deliver(
         b,
         &s[KEPT_LENGTHS..],

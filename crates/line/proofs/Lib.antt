@@ -16,5 +16,7 @@ pub mod Projected
 pub mod Lifted
 pub mod Rounds
 pub mod Scripts
+pub mod Firsts
+pub mod Spoken
 pub mod Examples
 pub mod Pins

@@ -17,6 +17,10 @@ abbrev pub through : {X Y : Type 0} → (X → Option Y) → Option X → Option
 through f none = none
 through f (some x) = f x
 
+pub through-all : {X : Type 0} (o : Option X) → through (λ x. some x) o ≡ o
+through-all none = refl
+through-all (some x) = refl
+
 pub through-some : {X Y : Type 0} (f : X → Option Y) (o : Option X) (y : Y) → through f o ≡ some y → (x : X) × (o ≡ some x) × (f x ≡ some y)
 through-some f none y e = none-some y e
 through-some f (some x) y e = (x, refl, e)

@@ -2,7 +2,7 @@
 use Prim.Native.Nat.{ℕ, zero, suc, _+_, _-_, _*_, _≤_, _<_}
 use native.Mathlib.Omega.{arith}
 use mathlib.Core.Bool.{Bool, true, false, not, _&&_, _||_}
-use mathlib.Core.Path.{_≡_, refl, ap}
+use mathlib.Core.Path.{_≡_, refl}
 use mathlib.Core.List.{List}
 use borrow.Author.Tests.{leb-true, leb-false, le-ltb, lt-ltb, eqb-true}
 use lib.ListN.{length}
@@ -31,6 +31,7 @@ use Rattle.line.proofs.Tests.{off}
 use Rattle.line_fragments.specs.Step.{send, echo, vote, Line, BoardState, Act, refuse, take, actOn, act}
 use Rattle.line.specs.Bytes.{bytes}
 use Rattle.line_code.specs.Parts.{FragmentRecord, codeOf, lineOf, ofKind, recordRead, readRecord}
+use Rattle.line_desk.proofs.Shown.{member-before}
 use Rattle.line_demand.proofs.Shown.{shownOf}
 
 not-over : (x y : ℕ) → ltb y x ≡ not (leb x y)
@@ -44,11 +45,6 @@ not-over x y = go (leb x y) (leb-true x y) (leb-false x y)
 vote-empty : (f : ℕ) → fragmentOk 3 f ≡ true → f ≡ 0
 unfolding fragmentOk pick
 vote-empty f h = eqb-true f 0 h
-
-member-before : (set i : ℕ) → 1 ≤ i → member set i ≡ has set (i - 1)
-unfolding member
-member-before set zero h = absurd (omega arith)
-member-before set (suc i) h = ap (has set) (let z : i ≡ suc i - 1 = omega arith in z)
 
 -- the send and the echo that a record's bytes say, with p path nodes and f fragment bytes
 abbrev pub sendIn : List ℕ → ℕ → ℕ → FragmentRecord

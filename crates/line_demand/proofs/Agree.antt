@@ -16,7 +16,8 @@ use Rattle.line_fragments.specs.Step as Fragments
 use Rattle.line_fragments.specs.Hashed.{hashedBy}
 use Rattle.line.specs.Bytes.{bytes}
 use Rattle.line_code.specs.Parts.{codeOf, lineOf}
-use Rattle.line_demand.specs.Boards.{putIn, givenIn}
+use Rattle.line_desk.specs.Desk.{putIn}
+use Rattle.line_demand.specs.Boards.{givenIn}
 use Rattle.line_demand.specs.Strings.{planStrings}
 use Rattle.line_demand.proofs.Shown.{shownOf}
 use Rattle.line_demand.proofs.Acts.{follow}

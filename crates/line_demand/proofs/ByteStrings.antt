@@ -29,7 +29,8 @@ use Rattle.line_fragments.specs.Hashed.{Hashed}
 use Rattle.line_code.specs.Parts.{Sendable, freshStrings}
 use Rattle.line_code.proofs.ByteLaws.{all-bytes, bytes-all}
 use Rattle.line_code.proofs.Strings.{Strings, string-bytes, picked, joined, check-bytes, encoding-bytes, fresh-bytes}
-use Rattle.line_demand.specs.Boards.{Desk, Lend, longEnough, lends, begin, fragmentBoard, boards}
+use Rattle.line_desk.specs.Desk.{Desk, Lend, longEnough, lends, begin}
+use Rattle.line_demand.specs.Boards.{fragmentKind, fragmentBoard, boards}
 use Rattle.line_demand.specs.Strings.{pathStrings, deliveryStrings, planStrings, stepStrings, HashedInRun}
 
 -- ---- the strings of one step
@@ -73,7 +74,7 @@ step-strings (some d) h (hand i r) = go (bytes r) refl
 -- ---- along a run
 
 module _ (b : Table) where
-  begun-bytes : (j : ℕ) (d : Desk) → All Byte (d .state) → OfBytes (begin b j d)
+  begun-bytes : (j : ℕ) (d : Desk) → All Byte (d .state) → OfBytes (begin (fragmentKind b) j d)
   unfolding begin pick
   begun-bytes j d h = go (eqb (startOf b j (d .state) .number) 0) refl
     where
@@ -89,7 +90,7 @@ module _ (b : Table) where
   next-bytes : (o : Option Desk) → OfBytes o → (x : Input Lend (List ℕ)) → OfBytes (next (fragmentBoard b) o x)
   unfolding next called pick
   next-bytes none h x = tt
-  next-bytes (some d) h (tell l) = lent-bytes d h l (longEnough b l)
+  next-bytes (some d) h (tell l) = lent-bytes d h l (longEnough (fragmentKind b) l)
   next-bytes (some d) h (hand i r) = go (bytes r) refl
     where
       go : (c : Bool) → bytes r ≡ c → All Byte (pick c (fragmentBoard b .step d i r) (record { desk = d; put = λ k. none; given = none }) .desk .state)

@@ -2,9 +2,9 @@
 use Prim.Native.Nat.{ℕ, _≤_}
 use native.Mathlib.Omega.{arith}
 use mathlib.Core.Bool.{Bool, true}
-use mathlib.Core.Path.{_≡_, refl, subst, sym, _∙_}
+use mathlib.Core.Path.{_≡_, refl, sym, _∙_}
 use mathlib.Core.List.{List, []}
-use mathlib.Core.Option.{Option, some}
+use mathlib.Core.Option.{some}
 use lib.Dec.{T}
 use lib.ListN.{length, replicate, length-replicate}
 use Rattle.record.specs.Form.{outBytes}
@@ -14,11 +14,11 @@ use Rattle.table.specs.declared.Table.{Table}
 use Rattle.board_send.specs.Sent.{sendRecord, sendOf}
 use Rattle.board_send.proofs.Sends.{sent-front}
 use Rattle.line.specs.Boards.{Board, Keepers}
-use Rattle.line.specs.Run.{Machine, hand, Run, Took, Fair}
+use Rattle.line.specs.Run.{Machine, Run, Fair}
 use Rattle.line.specs.Promise.{Mail, Promise}
-use Rattle.line.specs.Project.{project, TookSeen}
-use Rattle.line.proofs.Projected.{Carries, fair-on, took-seen, promise-of, promise-on}
+use Rattle.line.specs.Project.{project}
 use Rattle.line.proofs.Lifted.{lifted}
+use Rattle.line_desk.proofs.Carry.{sees, lifts, carries, fair-line, promised}
 use Rattle.line_fragments.specs.Step.{mail}
 use Rattle.line_fragments.specs.Hashed.{hashes, CollisionIn}
 use Rattle.line_fragments.proofs.Hashes.{collides}
@@ -27,12 +27,12 @@ use Rattle.line_code.specs.Parts.{Sendable, codeOf, lineOf}
 use Rattle.line_code.proofs.Codes.{code-laws}
 use Rattle.line_code.proofs.Lines.{line-laws}
 use Rattle.line_code.proofs.Mails.{mail-sent, mail-laws}
-use Rattle.line_demand.specs.Boards.{Desk, Roomy, Sends, boards}
+use Rattle.line_desk.specs.Desk.{Desk, Roomy}
+use Rattle.line_demand.specs.Boards.{fragmentKind, Sends, boards}
 use Rattle.line_demand.specs.Strings.{OneValue}
 use Rattle.line_demand.specs.Demand.{DemandThree}
 use Rattle.line_demand.proofs.Started.{broadcast}
-use Rattle.line_demand.proofs.Carry.{sees, board-is, lifts, carries}
-use Rattle.line_demand.proofs.Reached.{passed}
+use Rattle.line_demand.proofs.Carry.{paper, board-is, begins, follows, carried}
 use Rattle.line_demand.proofs.Strings.{step-hashes}
 
 module _ (b : Table) (limited : limits b ≡ true) (m : List ℕ) (fits : Sendable b m) where
@@ -59,37 +59,24 @@ module _ (b : Table) (limited : limits b ≡ true) (m : List ℕ) (fits : Sendab
       long : outBytes ≤ length {A = ℕ} (replicate outBytes 0)
       long = omega (arith, length-replicate {A = ℕ} outBytes 0)
 
-  module _ {keeps : ℕ → Bool} (K : Keepers (b .n) (b .t) keeps) (lent : ℕ → Desk) (roomy : (j : ℕ) → T (keeps j) → Roomy b (lent j)) (r : Run (boards b lent)) where
+  module _ {keeps : ℕ → Bool} (K : Keepers (b .n) (b .t) keeps) (lent : ℕ → Desk) (roomy : (j : ℕ) → T (keeps j) → Roomy (fragmentKind b) (lent j)) (r : Run (boards b lent)) where
     abbrev BB : Machine
     BB = boards b lent
 
     abbrev MM : Machine
     MM = broadcast b
 
-    abbrev carry : Carries BB MM sees keeps
-    carry = carries b limited lent keeps roomy
-
-    -- ---- a run of the byte boards is a run of the broadcast
-
-    fair-line : Fair BB keeps (Sends b m) r → Fair MM keeps Mails (project BB MM sees r)
-    unfolding carries lifted lifts
-    fair-line f = fair-on carry (λ i j β ρ e s. to-mail i j ρ (subst (λ x. Sends b m i j x) (let q : β ≡ ρ = cc in q) s)) f
-
-    took-line : (i j : ℕ) (β ρ : List ℕ) → T (keeps j) → _≡_ {A = Option (List ℕ)} (some β) (some ρ) → Took BB j (hand i β) r
-        → TookSeen BB MM sees j (hand i β) (hand i ρ) r
-    took-line i j β ρ kj e h =
-        let q : β ≡ ρ = cc in
-        subst (λ x. TookSeen BB MM sees j (hand i β) (hand i x) r) q (took-seen (passed b limited lent keeps roomy j kj (K .known j kj) i β) h)
-
     clash : CollisionIn (codeOf b) MM (hashes (lineOf b)) keeps (b .sender) m (project BB MM sees r) → OneValue b lent keeps m r
     unfolding carries lifted lifts
-    clash = collides carry (codeOf b) (step-hashes b) (b .sender) m r
+    clash = collides (carried b lent keeps roomy) (codeOf b) (step-hashes b) (b .sender) m r
 
+    -- a run of the byte boards is a run of the broadcast, whose promise is theirs
     line : Fair BB keeps (Sends b m) r → Promise BB keeps (b .sender) (Sends b m) (some m) (OneValue b lent keeps m r) r
-    unfolding carries lifted lifts
-    line f = promise-on refl (λ d. (d, refl)) (λ d e q. (cc)) took-line
-        (promise-of carry (λ i j ρ s. (ρ, of-mail i j ρ s, refl)) clash
-        (kept (line-laws b limited) (λ i. []) (λ i. []) (code-laws b limited) (mail-laws b limited) K m fits (fair-line f)))
+    line f =
+        promised (fragmentKind b) (paper b) (follows b) lent keeps roomy (b .n) (begins b limited) (b .t) K (Sends b m) Mails to-mail of-mail (b .sender) (some m)
+        clash
+        (kept (line-laws b limited) (λ i. []) (λ i. []) (code-laws b limited) (mail-laws b limited) K m fits
+        (fair-line (fragmentKind b) (paper b) (follows b) lent keeps roomy (b .n) (begins b limited) (b .t) K (Sends b m) Mails to-mail f))
 
 -- demand 3 holds
 pub demand-three : DemandThree

@@ -17,7 +17,6 @@ pub mod ByteStrings
 pub mod Demand
 pub mod Pins
 pub mod Void
-pub mod Follows
 pub mod Refusals
 pub mod Meets
 pub mod NotEmpty

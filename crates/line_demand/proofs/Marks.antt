@@ -28,6 +28,7 @@ use Rattle.line.proofs.Tests.{off}
 use Rattle.line_fragments.specs.Step.{send, echo, vote, Line, BoardState, take, afterAct}
 use Rattle.line_fragments.specs.Step as Fragments
 use Rattle.line_code.specs.Parts.{codeOf, lineOf}
+use Rattle.line_desk.proofs.Shown.{keep-core}
 use Rattle.line_demand.proofs.Shown.{spokeIn, setIn, rootAt, coreOf, fragmentIn, shownOf}
 use Rattle.line_demand.proofs.Settled.{usable-inside, echo-below, vote-below, length-below, half}
 
@@ -88,25 +89,20 @@ module _ (b : Table) (own : ℕ) (m : Marks) (s : List ℕ) (g : Sounds (viewOf 
 
     pub echo-core : coreOf mE sE ≡ Core.keep (coreOf m s) Word.echo (suc i) root
     unfolding marked pick
-    echo-core = λ x. record { spoke = λ w. words w x; set = λ w k. sets w k x; val = λ w k. vals w k x }
+    echo-core = keep-core (spokeIn m) (spokeIn mE) (setIn m) (setIn mE) (λ w j. part (rootAt w j) 32 s) (λ w j. part (rootAt w j) 32 sE) Word.echo i root words sets
+        (echo-new (sMax b) i f root fragment s (place i hi) lr lf hf small long room) old
       where
-        c : Core (List ℕ)
-        c = coreOf m s
-
-        words : (w : Word) → spokeIn mE w ≡ c .spoke w
+        words : (w : Word) → spokeIn mE w ≡ spokeIn m w
         words Word.echo = or-false (m .acquired)
         words Word.vote = refl
 
-        sets : (w : Word) (k : ℕ) → member (setIn mE w) k ≡ setWord (c .set) Word.echo (setAt (c .set Word.echo) (suc i) true) w k
-        sets Word.echo k = member-add (m .echoes) i k
-        sets Word.vote k = refl
+        sets : (w : Word) → setIn mE w ≡ setWord (setIn m) Word.echo (bitOr (m .echoes) (2 ^ i)) w
+        sets Word.echo = refl
+        sets Word.vote = refl
 
-        vals : (w : Word) (k : ℕ) → masked (setIn mE w) (λ j. part (rootAt w j) 32 sE) k ≡ setWord (c .val) Word.echo (setAt (c .val Word.echo) (suc i) root) w k
-        vals Word.echo k = masked-add (m .echoes) i root (λ j. part (echoAt j) 32 s) (λ j. part (echoAt j) 32 sE)
-            (echo-new (sMax b) i f root fragment s (place i hi) lr lf hf small long room)
-            (λ j t ne. echo-old (sMax b) i f root fragment s (place i hi) lr lf hf small long room j (echo-place j t) ne) k
-        vals Word.vote k = masked-same (m .votes) (λ j. part (voteAt j) 32 s) (λ j. part (voteAt j) 32 sE)
-            (λ j t. echo-votes (sMax b) i f root fragment s (place i hi) lr lf hf small long room j (vote-place j t)) k
+        old : (w : Word) (j : ℕ) → T (member (setIn m w) (suc j)) → (w ≡ Word.echo → j ≡ i → ⊥) → part (rootAt w j) 32 sE ≡ part (rootAt w j) 32 s
+        old Word.echo j t ne = echo-old (sMax b) i f root fragment s (place i hi) lr lf hf small long room j (echo-place j t) (ne refl)
+        old Word.vote j t ne = echo-votes (sMax b) i f root fragment s (place i hi) lr lf hf small long room j (vote-place j t)
 
     fragment-is : (k : ℕ) → masked (mE .echoes) (fragmentIn (sMax b) sE) k ≡ setAt (masked (m .echoes) (fragmentIn (sMax b) s)) (suc i) fragment k
     unfolding marked pick
@@ -139,24 +135,20 @@ module _ (b : Table) (own : ℕ) (m : Marks) (s : List ℕ) (g : Sounds (viewOf 
 
     pub vote-core : coreOf mV sV ≡ Core.keep (coreOf m s) Word.vote (suc i) root
     unfolding marked pick
-    vote-core = λ x. record { spoke = λ w. words w x; set = λ w k. sets w k x; val = λ w k. vals w k x }
+    vote-core = keep-core (spokeIn m) (spokeIn mV) (setIn m) (setIn mV) (λ w j. part (rootAt w j) 32 s) (λ w j. part (rootAt w j) 32 sV) Word.vote i root words sets
+        (vote-new i root s (place i hi) lr long) old
       where
-        c : Core (List ℕ)
-        c = coreOf m s
-
-        words : (w : Word) → spokeIn mV w ≡ c .spoke w
+        words : (w : Word) → spokeIn mV w ≡ spokeIn m w
         words Word.echo = or-false (m .acquired)
         words Word.vote = refl
 
-        sets : (w : Word) (k : ℕ) → member (setIn mV w) k ≡ setWord (c .set) Word.vote (setAt (c .set Word.vote) (suc i) true) w k
-        sets Word.echo k = refl
-        sets Word.vote k = member-add (m .votes) i k
+        sets : (w : Word) → setIn mV w ≡ setWord (setIn m) Word.vote (bitOr (m .votes) (2 ^ i)) w
+        sets Word.echo = refl
+        sets Word.vote = refl
 
-        vals : (w : Word) (k : ℕ) → masked (setIn mV w) (λ j. part (rootAt w j) 32 sV) k ≡ setWord (c .val) Word.vote (setAt (c .val Word.vote) (suc i) root) w k
-        vals Word.echo k = masked-same (m .echoes) (λ j. part (echoAt j) 32 s) (λ j. part (echoAt j) 32 sV)
-            (λ j t. vote-echoes i root s (place i hi) lr long j (echo-place j t)) k
-        vals Word.vote k = masked-add (m .votes) i root (λ j. part (voteAt j) 32 s) (λ j. part (voteAt j) 32 sV)
-            (vote-new i root s (place i hi) lr long) (λ j t ne. vote-old i root s (place i hi) lr long j ne) k
+        old : (w : Word) (j : ℕ) → T (member (setIn m w) (suc j)) → (w ≡ Word.vote → j ≡ i → ⊥) → part (rootAt w j) 32 sV ≡ part (rootAt w j) 32 s
+        old Word.echo j t ne = vote-echoes i root s (place i hi) lr long j (echo-place j t)
+        old Word.vote j t ne = vote-old i root s (place i hi) lr long j (ne refl)
 
     fragments-stay : (k : ℕ) → masked (mV .echoes) (fragmentIn (sMax b) sV) k ≡ masked (m .echoes) (fragmentIn (sMax b) s) k
     unfolding marked pick

@@ -16,23 +16,25 @@ use Rattle.state.specs.State.{stateSize, marksOf}
 use Rattle.line.specs.Boards.{Board, known, Keepers}
 use Rattle.line.specs.Run.{Machine, hand, Run, state, Took, Delivered, Fair, Over}
 use Rattle.line.proofs.Counts.{known-is, first-keep}
-use Rattle.line.proofs.Rounds.{Later, later-both, took-later, within-before}
+use Rattle.line.proofs.Rounds.{Later, Within, later-both, took-later, within-before}
+use Rattle.line.proofs.Firsts.{upTo}
 use Rattle.line.proofs.Scripts.{Strays, Script, voted, voted-within, took-mail, took-why, Plays, stray-moment, put-only}
 use Rattle.line.proofs.Scripts.{script-fair, script-over, script-delivers}
 use Rattle.line_fragments.specs.Step.{echo, vote, mail}
-use Rattle.line_fragments.proofs.Spreads.{upTo, Correct, scriptOf, stateAt, not-said, Refused, plays}
+use Rattle.line_fragments.proofs.Spreads.{Correct, scriptOf, stateAt, not-said, Refused, plays}
 use Rattle.line_fragments.proofs.Delivers.{encoded, message-back}
 use Rattle.line_code.specs.Parts.{Sendable, codeOf, lineOf, readRecord}
 use Rattle.line_code.proofs.Codes.{code-laws}
 use Rattle.line_code.proofs.Lines.{line-laws}
 use Rattle.line_code.proofs.Mails.{mail-laws}
-use Rattle.line_demand.specs.Boards.{Desk, Roomy, Sends, boards}
+use Rattle.line_desk.proofs.Copied.{copied, copied-later, took-copied, took-only, delivered-copied, copied-held, fair-copied, over-copied, genuine-copied}
+use Rattle.line_desk.specs.Desk.{Desk, Roomy}
+use Rattle.line_demand.specs.Boards.{fragmentKind, Sends, boards}
 use Rattle.line_demand.proofs.Shown.{shownOf}
 use Rattle.line_demand.proofs.Started.{broadcast}
 use Rattle.line_demand.proofs.Reached.{started}
 use Rattle.line_demand.proofs.Demand.{to-mail, of-mail}
-use Rattle.line_demand.proofs.Follows.{copied, delivered-copied, copied-shown, copied-later, took-copied, took-only}
-use Rattle.line_demand.proofs.Follows.{fair-copied, over-copied, genuine-copied}
+use Rattle.line_demand.proofs.Carry.{paper, begins, follows}
 use Rattle.line_demand.proofs.Refusals.{RefusedWith, Refuses}
 
 -- A run that meets every premise of demand 3, and in which each rule-keeping board delivers d; m is the sender's message, if it keeps the rules.
@@ -40,7 +42,7 @@ pub record Met (b : Table) (lent : ℕ → Desk) (keeps : ℕ → Bool) (m : Lis
   pub limited : limits b ≡ true
   pub sendable : Sendable b m
   pub keepers : Keepers (b .n) (b .t) keeps
-  pub roomy : (j : ℕ) → T (keeps j) → Roomy b (lent j)
+  pub roomy : (j : ℕ) → T (keeps j) → Roomy (fragmentKind b) (lent j)
   pub run : Run (boards b lent)
   pub fair : Fair (boards b lent) keeps (Sends b m) run
   pub over : Over (boards b lent) keeps (Sends b m) run
@@ -52,7 +54,7 @@ pub record Met (b : Table) (lent : ℕ → Desk) (keeps : ℕ → Bool) (m : Lis
 abbrev pub blank : Table → ℕ → Desk
 blank b j = record { state = replicate (stateSize b) 0; out = replicate outBytes 0; delivery = replicate (b .longest) 0 }
 
-pub blank-roomy : (b : Table) (j : ℕ) → Roomy b (blank b j)
+pub blank-roomy : (b : Table) (j : ℕ) → Roomy (fragmentKind b) (blank b j)
 blank-roomy b j = record {
   state = omega (arith, length-replicate {A = ℕ} (stateSize b) 0);
   out = omega (arith, length-replicate {A = ℕ} outBytes 0);
@@ -61,7 +63,7 @@ blank-roomy b j = record {
 
 -- the boards 1 to h spread correct fragments, after the records of X
 abbrev pub runOf : (b : Table) → List ℕ → (ℕ → List ℕ) → (ℕ → List ℕ) → Strays (List ℕ) → ℕ → Run (boards b (blank b))
-runOf b v f π X h = copied b (blank b) (voted (broadcast b) (b .n) (scriptOf (lineOf b) v f π X h))
+runOf b v f π X h = copied (fragmentKind b) (paper b) (blank b) (voted (broadcast b) (b .n) (scriptOf (lineOf b) v f π X h))
 
 module _ (b : Table) (limited : limits b ≡ true) where
   -- the records of X are refused by every board that has taken a correct send
@@ -97,9 +99,9 @@ module _ (b : Table) (limited : limits b ≡ true) where
           keepers = K;
           roomy = λ j kj. blank-roomy b j;
           run = runOf b v f π X h;
-          fair = fair-copied b limited (blank b) (blank-roomy b) keeps (Sends b m) q w (script-fair M (b .n) P (does d is) keeps (Sends b m) sends strays);
-          over = over-copied b limited (blank b) (blank-roomy b) keeps (Sends b m) q w (script-over M (b .n) P (does d is) keeps (Sends b m) speak only);
-          delivered = λ j kj. delivered-copied b limited (blank b) (blank-roomy b) q w j d (script-delivers M (b .n) P (does d is) j (K .known j kj));
+          fair = fair-copied (fragmentKind b) (paper b) (blank b) (follows b) (blank-roomy b) (b .n) (begins b limited) keeps (Sends b m) q w (script-fair M (b .n) P (does d is) keeps (Sends b m) sends strays);
+          over = over-copied (fragmentKind b) (paper b) (blank b) (follows b) (blank-roomy b) (b .n) (begins b limited) keeps (Sends b m) q w (script-over M (b .n) P (does d is) keeps (Sends b m) speak only);
+          delivered = λ j kj. delivered-copied (fragmentKind b) (paper b) (blank b) (follows b) (blank-roomy b) (b .n) (begins b limited) q w j d (script-delivers M (b .n) P (does d is) j (K .known j kj));
         }
 
     -- a board that hands out a record of X that is neither its echo nor its vote, and is not the sender, breaks the rules
@@ -110,7 +112,7 @@ module _ (b : Table) (limited : limits b ≡ true) where
     breaks keeps fair k j c bj kj bi ne no-echo no-vote ki =
         let given = does (codeOf b .result v (known h) (upTo h f (λ i. []))) refl in
         let (r, since, then, at) = stray-moment M (b .n) P given k j c bj in
-        elim (genuine-copied b limited (blank b) (blank-roomy b) keeps (Sends b m) (voted M (b .n) P) (voted-within M (b .n) P) fair
+        elim (genuine-copied (fragmentKind b) (paper b) (blank b) (follows b) (blank-roomy b) (b .n) (begins b limited) keeps (Sends b m) (voted M (b .n) P) (voted-within M (b .n) P) fair
         (X .from k) j (X .stray k j) (took-later M then Took.now) ki kj) [
           | inl p ↦ not-said (line-laws b limited) (λ i. []) (λ i. []) G (X .from k) bi (X .stray k j) no-echo no-vote
               (put-only M (b .n) P given (X .from k) j (X .stray k j) bi p)
@@ -120,7 +122,13 @@ module _ (b : Table) (limited : limits b ≡ true) where
     -- of a board that is not the sender and does not speak, only records of X are handed over
     pub strays-only : (a j : ℕ) (x : List ℕ) → (a ≡ b .sender → ⊥) → (Board h a → ⊥) → Took (boards b (blank b)) j (hand a x) (runOf b v f π X h)
         → (k : ℕ) × Board (X .rounds) k × (a ≡ X .from k) × (x ≡ X .stray k j)
-    strays-only a j x other mute t = took-why M (b .n) P j a x other mute (took-only b limited (blank b) (blank-roomy b) (voted M (b .n) P) j a x t)
+    strays-only a j x other mute t = took-why M (b .n) P j a x other mute (took-only (fragmentKind b) (paper b) (blank b) (voted M (b .n) P) j a x t)
+
+    -- a board's bytes hold its state in the broadcast's run
+    shown-copied : (q : Run M) → Within M (b .n) q → (j : ℕ) (d : Desk) → state (boards b (blank b)) (copied (fragmentKind b) (paper b) (blank b) q) j ≡ some d
+        → shownOf b j (marksOf (d .state)) (d .state) ≡ state M q j
+    unfolding follows
+    shown-copied q w j d here = copied-held (fragmentKind b) (paper b) (blank b) (follows b) (blank-roomy b) (b .n) (begins b limited) q w j d here .shown .shows
 
     -- the records of X are refused with a number that follows from what the board holds, after it took the sender's record
     pub refuses : (k j q : ℕ) → Board (X .rounds) k → Board (b .n) j
@@ -131,15 +139,15 @@ module _ (b : Table) (limited : limits b ≡ true) where
     refuses k j q c bj says =
         let (r, since, then, at) = stray-moment M (b .n) P (does (codeOf b .result v (known h) (upTo h f (λ i. []))) refl) k j c bj in
         let within = within-before M (b .n) (later-both M (Later.more Later.same) then) (voted-within M (b .n) P) in
-        let (d, here) = started b limited (blank b) (λ l. true) (λ l kl. blank-roomy b l) j tt bj (copied b (blank b) r) in (
+        let (d, here) = started b limited (blank b) (λ l. true) (λ l kl. blank-roomy b l) j tt bj (copied (fragmentKind b) (paper b) (blank b) r) in (
           record {
-            before = copied b (blank b) r;
-            onward = copied-later b limited (blank b) (blank-roomy b) then;
+            before = copied (fragmentKind b) (paper b) (blank b) r;
+            onward = copied-later (fragmentKind b) (paper b) (blank b) then;
             desk = d;
             here = here;
-            refusal = says (copied b (blank b) r) d here (copied-shown b limited (blank b) (blank-roomy b) r within j d here ∙ at);
+            refusal = says (copied (fragmentKind b) (paper b) (blank b) r) d here (shown-copied r within j d here ∙ at);
           },
-          took-copied b limited (blank b) (blank-roomy b) (took-later M since (took-mail M (b .n) P j bj)),
+          took-copied (fragmentKind b) (paper b) (blank b) (took-later M since (took-mail M (b .n) P j bj)),
         )
 
   -- the sender keeps the rules, and its message is delivered by the boards 1 to h

@@ -27,7 +27,8 @@ use Rattle.line.specs.Bytes.{bytes}
 use Rattle.line_code.specs.Parts.{Sendable, codeOf, lineOf, recordRead, readRecord}
 use Rattle.line_code.proofs.Lines.{line-laws}
 use Rattle.line_code.proofs.Mails.{mail-sent, mail-laws}
-use Rattle.line_demand.specs.Boards.{Desk, Sends, boards}
+use Rattle.line_desk.specs.Desk.{Desk}
+use Rattle.line_demand.specs.Boards.{Sends, boards}
 use Rattle.line_demand.proofs.Demand.{of-mail}
 use Rattle.line_demand.proofs.Void.{small, small-limits, pieceOf, pathsOf, resultOfAll, lone, lone-correct, lone-void, lies, lies-correct, lies-void}
 use Rattle.line_demand.proofs.Refusals.{RefusedWith, Refuses, empty-twenty, forged-six, second-nine}

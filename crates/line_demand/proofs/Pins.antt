@@ -12,7 +12,7 @@ use Rattle.board.specs.Stepped.{recordRoot, marked, kept, endsNow}
 use Rattle.board_step.specs.Step.{good}
 use Rattle.line.specs.Run.{hand, tell}
 use Rattle.line.specs.Bytes.{bytes}
-use Rattle.line_demand.specs.Boards.{Desk, Lend}
+use Rattle.line_desk.specs.Desk.{Desk, Lend}
 use Rattle.line_demand.specs.Strings.{pathStrings, deliveryStrings, planStrings, stepStrings}
 
 -- a record that is refused

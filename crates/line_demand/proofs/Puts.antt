@@ -1,14 +1,13 @@
 -- The record that a step puts out is the one that the broadcast's step puts out.
-use Prim.Native.Nat.{ℕ, _/_, _≤_}
+use Prim.Native.Nat.{ℕ, _/_}
 use native.Mathlib.Omega.{arith}
 use mathlib.Core.Bool.{Bool, true, false, not, _&&_, _||_}
 use mathlib.Core.Path.{_≡_, refl, ap, _∙_}
-use mathlib.Core.List.{List, [], _∷_}
-use mathlib.Core.Option.{Option, some, none}
+use mathlib.Core.List.{List, []}
+use mathlib.Core.Option.{some, none}
 use lib.Dec.{eqb}
 use lib.ListN.{length}
-use Rattle.octets.specs.Bytes.{pick, put, same}
-use Rattle.octets.proofs.Frame.{part-in}
+use Rattle.octets.specs.Bytes.{pick, same}
 use Rattle.table.specs.declared.Table.{Table}
 use Rattle.record.specs.Form.{recordOf}
 use Rattle.state.specs.State.{tableOf, ownOf, marksOf}
@@ -25,20 +24,11 @@ use Rattle.line.specs.Core as Core
 use Rattle.line_fragments.specs.Step.{echo, vote, Line, BoardState, Act, take, voteOut}
 use Rattle.line_fragments.specs.Step as Fragments
 use Rattle.line_code.specs.Parts.{codeOf, lineOf, writeRecord}
-use Rattle.line_demand.specs.Boards.{recordIn, putIn}
+use Rattle.line_desk.specs.Desk.{putIn}
+use Rattle.line_desk.proofs.Puts.{unless-empty, record-is}
 use Rattle.line_demand.proofs.Shown.{coreOf, shownOf, due-is}
 use Rattle.line_demand.proofs.Acts.{sendIn, echoIn, Follow, refuses, sends, echoes, votes}
 use Rattle.line_demand.proofs.Nexts.{markedBy, keptBy, correct, core-echo, core-vote}
-
--- ---- bytes at the front of the buffer
-
-abbrev unless-empty : List ℕ → Option (List ℕ)
-unless-empty [] = none
-unless-empty (x ∷ w) = some (x ∷ w)
-
-record-is : (w o : List ℕ) → length w ≤ length o → recordIn (length w) (put 0 w o) ≡ unless-empty w
-record-is [] o h = refl
-record-is (x ∷ w) o h = ap some (part-in 0 (x ∷ w) o (omega arith))
 
 written : (c : Bool) (k p : ℕ) (root path fragment : List ℕ)
     → unless-empty (pick c (recordOf k root p path fragment) []) ≡ pick c (some (recordOf k root p path fragment)) none

@@ -22,7 +22,8 @@ use Rattle.line.specs.Boards.{Board}
 use Rattle.line.specs.Run.{hand, Run, after, state}
 use Rattle.line.proofs.Rounds.{Later}
 use Rattle.line_code.specs.Parts.{Sendable}
-use Rattle.line_demand.specs.Boards.{Desk, Roomy, boards}
+use Rattle.line_desk.specs.Desk.{Desk, Roomy}
+use Rattle.line_demand.specs.Boards.{fragmentKind, boards}
 use Rattle.line_demand.proofs.Carry.{board-is}
 use Rattle.line_demand.proofs.Reached.{run-plans}
 
@@ -42,7 +43,7 @@ by-plan : (q : ℕ) (d : Desk) (i : ℕ) (x : List ℕ) → planOf (d .state) i 
 unfolding stepOf byPlan
 by-plan q d i x e = rw e
 
-module _ (b : Table) (limited : limits b ≡ true) (lent : ℕ → Desk) (roomy : (j : ℕ) → Roomy b (lent j)) (r : Run (boards b lent)) (j : ℕ) (d : Desk)
+module _ (b : Table) (limited : limits b ≡ true) (lent : ℕ → Desk) (roomy : (j : ℕ) → Roomy (fragmentKind b) (lent j)) (r : Run (boards b lent)) (j : ℕ) (d : Desk)
     (here : state (boards b lent) r j ≡ some d) (i : ℕ) (bd : Board (b .n) i) where
   -- no refusal 2, 3 or 4
   plan-is : (x : List ℕ) → planOf (d .state) i x (d .out) (d .delivery) ≡ byForm b (marksOf (d .state)) i (parse x)

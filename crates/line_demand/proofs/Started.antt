@@ -1,54 +1,39 @@
 -- What a start leaves shows the broadcast's start, whatever the buffer held.
-use Prim.Native.Nat.{ℕ, zero, suc, _-_, _≤_}
-use mathlib.Core.Bool.{Bool, true, false}
+use Prim.Native.Nat.{ℕ, _≤_}
+use mathlib.Core.Bool.{true, false}
 use mathlib.Core.Path.{_≡_, refl, ap, _∙_}
 use mathlib.Core.List.{List, []}
 use lib.ListN.{length}
-use Rattle.octets.specs.Bytes.{pick, part, put}
+use Rattle.octets.specs.Bytes.{part, put}
 use Rattle.table.specs.Table.{limits, sMax, isBoard}
 use Rattle.table.specs.declared.Table.{Table}
-use Rattle.state.specs.Kept.{member, masked}
 use Rattle.state.specs.State.{fixedBytes, marksOf}
 use Rattle.state.specs.declared.Marks.{Marks}
-use Rattle.octets.proofs.Members.{has-none}
 use Rattle.board.specs.Started.{freshBytes}
 use Rattle.board.proofs.Starts.{unmarked, start-marks}
 use Rattle.line.specs.Core.{Word}
 use Rattle.line.specs.Run.{Machine}
 use Rattle.line_fragments.specs.Step.{board}
 use Rattle.line_code.specs.Parts.{lineOf}
+use Rattle.line_desk.proofs.Shown.{member-none, masked-none, no-core}
 use Rattle.line_demand.proofs.Shown.{spokeIn, setIn, rootAt, fragmentIn, shownOf}
 
 -- the boards of the broadcast; nothing stands where nothing was kept yet
 abbrev pub broadcast : Table → Machine
 broadcast b = board (lineOf b) (λ i. []) (λ i. [])
 
--- an empty set has no board
-member-none : (k : ℕ) → member 0 k ≡ false
-unfolding member
-member-none zero = refl
-member-none (suc k) = has-none k
-
-masked-none : (f : ℕ → List ℕ) (k : ℕ) → masked 0 f k ≡ []
-unfolding pick
-masked-none f k = ap (λ (c : Bool). pick c (f (k - 1)) []) (member-none k)
-
 words : (w : Word) → spokeIn unmarked w ≡ false
 words Word.echo = refl
 words Word.vote = refl
 
-sets : (w : Word) (k : ℕ) → member (setIn unmarked w) k ≡ false
-sets Word.echo k = member-none k
-sets Word.vote k = member-none k
-
-vals : (w : Word) (f : ℕ → List ℕ) (k : ℕ) → masked (setIn unmarked w) f k ≡ []
-vals Word.echo f k = masked-none f k
-vals Word.vote f k = masked-none f k
+sets : (w : Word) → setIn unmarked w ≡ 0
+sets Word.echo = refl
+sets Word.vote = refl
 
 unmarked-shown : (b : Table) (own : ℕ) (s : List ℕ) → shownOf b own unmarked s ≡ broadcast b .start own
 unmarked-shown b own s = λ x. record {
   own = own;
-  core = record { spoke = λ w. words w x; set = λ w k. sets w k x; val = λ w k. vals w (λ j. part (rootAt w j) 32 s) k x };
+  core = no-core (spokeIn unmarked) (setIn unmarked) (λ w j. part (rootAt w j) 32 s) words sets x;
   usable = λ k. member-none k x;
   frag = λ k. masked-none (fragmentIn (sMax b) s) k x;
   out = false;

@@ -28,7 +28,8 @@ use Rattle.deliver.specs.Delivered.{allOfLength, blockRead, readFrom, afresh, r
 use Rattle.record.specs.Form.{isKind, nodesMost, pathOk, fragmentOk, formOf}
 use Rattle.record.proofs.PartLaws.{Fits}
 use Rattle.line.specs.Boards.{Board, known}
-use Rattle.line_fragments.proofs.Spreads.{upTo, Correct}
+use Rattle.line.proofs.Firsts.{upTo}
+use Rattle.line_fragments.proofs.Spreads.{Correct}
 use Rattle.line_code.specs.Parts.{bitsOf, lineOf}
 use Rattle.line_code.proofs.Encodings.{root-bytes, path-bytes}
 use Rattle.line_code.proofs.Records.{Good}

@@ -23,7 +23,8 @@ use Rattle.line.specs.Run.{Input, hand, tell, Run}
 use Rattle.line_fragments.specs.Hashed.{Hashed}
 use Rattle.line.specs.Bytes.{bytes}
 use Rattle.line_code.specs.Parts.{freshStrings}
-use Rattle.line_demand.specs.Boards.{Desk, Lend, boards}
+use Rattle.line_desk.specs.Desk.{Desk, Lend}
+use Rattle.line_demand.specs.Boards.{boards}
 
 -- "in path checks of records that rule-keeping boards accept": of a send at the own number, of an echo at the sender's; a vote has no path
 unfoldable pub pathStrings : ℕ → ℕ → ℕ → List ℕ → ℕ → List ℕ → List (List ℕ)

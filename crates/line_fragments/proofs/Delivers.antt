@@ -15,7 +15,8 @@ use Rattle.line.proofs.Counts.{count-known}
 use Rattle.line_fragments.specs.Code.{Code}
 use Rattle.line_fragments.specs.Step.{send, Line, BoardState, refuse, actOn, act}
 use Rattle.line_fragments.specs.Laws.{CodeLaws, MailLaws}
-use Rattle.line_fragments.proofs.Spreads.{upTo, Correct, and-false}
+use Rattle.line.proofs.Firsts.{upTo, and-false}
+use Rattle.line_fragments.proofs.Spreads.{Correct}
 
 -- ---- a message
 

@@ -1,74 +1,28 @@
 -- What a board of n does in the run of line/proofs/Scripts, whatever hash, tree and code are. It is handed a send of the root v, then records that
 -- it refuses, and then an echo and a vote of each of the boards 1 to h, all of them correct.
-use Prim.Native.Nat.{ℕ, zero, suc, _-_, _≤_, _<_, min}
+use Prim.Native.Nat.{ℕ, suc, _-_, _≤_, _<_, min}
 use native.Mathlib.Omega.{arith}
-use native.Mathlib.Decide.{ℕ-discrete, decLt}
+use native.Mathlib.Decide.{decLt}
 use mathlib.Core.Bool.{Bool, true, false, not, _&&_, _||_}
 use mathlib.Core.Path.{_≡_, refl, subst, sym, _∙_, ap}
 use mathlib.Core.Logic.{_⊎_, inl, inr}
 use mathlib.Core.Option.{Option, some, none}
-use borrow.Author.Tests.{leb-true, leb-false, le-leb, lt-leb, ne-eqb}
-use lib.Dec.{T, leb, ltb, eqb, eqb-refl}
+use borrow.Author.Tests.{le-leb, lt-leb}
+use lib.Dec.{T, leb, eqb, eqb-refl}
 use Rattle.octets.specs.Bytes.{pick}
-use Rattle.octets.proofs.Picks.{is-true, or-false}
-use Rattle.line.specs.Boards.{count, Board, known, someBoards}
+use Rattle.octets.proofs.Picks.{is-true}
+use Rattle.line.specs.Boards.{Board, known}
 use Rattle.line.specs.Run.{Machine, hand}
-use Rattle.line.specs.Core.{Word, setAt, setWord, Core, keep, quorum, dueBy, due, withVote}
+use Rattle.line.specs.Core.{Word, setAt, Core, quorum, dueBy, due, withVote}
 use Rattle.line.proofs.Tests.{pick-true}
-use Rattle.line.proofs.Counts.{top, is-known, known-beyond, count-known}
 use Rattle.line.proofs.Scripts.{Strays, Script, Plays}
+use Rattle.line.proofs.Firsts.{upTo, firstOf, upTo-next, upTo-none, first-beyond, and-false, none-enough, due-echo, said-echo, no-vote, each, cores, keep-echo, keep-vote, naming, naming-count, no-cores}
+use Rattle.line.proofs.Firsts as Firsts
 use Rattle.line_fragments.specs.Code.{Code}
 use Rattle.line_fragments.specs.Step.{send, echo, vote, Line, fewestBoards, enoughBy, BoardState, refuse, take, actOn, act, keepAct, opens, ends}
 use Rattle.line_fragments.specs.Step.{settle, resultAt, afterAct, voteOut, putsOut, give, board}
 use Rattle.line_fragments.specs.Laws.{LineLaws}
 use Rattle.line_fragments.proofs.Steps.{took}
-
--- ---- what is kept of the boards 1 to i
-
--- f for the boards 1 to i, g for the others
-abbrev pub upTo : {A : Type 0} → ℕ → (ℕ → A) → (ℕ → A) → ℕ → A
-upTo i f g k = pick (known i k) (f k) (g k)
-
--- just these boards
-abbrev pub firstOf : ℕ → ℕ → Bool
-firstOf i = upTo i (λ k. true) (λ k. false)
-
--- one board more
-known-next : (i k : ℕ) → (k ≡ suc i → ⊥) → known (suc i) k ≡ known i k
-known-next i k ne = ap (λ (c : Bool). ltb 0 k && c) (go (leb k i) (leb-true k i) (leb-false k i))
-  where
-    go : (c : Bool) → (c ≡ true → k ≤ i) → (c ≡ false → i < k) → leb k (suc i) ≡ c
-    go true h l = let low = h refl in le-leb k (suc i) (omega arith)
-    go false h l = let high = l refl in lt-leb k (suc i) (omega arith)
-
-upTo-next : {A : Type 0} (i : ℕ) (f g : ℕ → A) (k : ℕ) → setAt (upTo i f g) (suc i) (f (suc i)) k ≡ upTo (suc i) f g k
-unfolding pick
-upTo-next i f g k = elim (ℕ-discrete k (suc i)) [
-  | yes e ↦ subst (λ a. setAt (upTo i f g) (suc i) (f (suc i)) a ≡ upTo (suc i) f g a) (sym e)
-      (pick-true (eqb (suc i) (suc i)) (f (suc i)) (upTo i f g (suc i)) (eqb-refl (suc i))
-      ∙ sym (pick-true (known (suc i) (suc i)) (f (suc i)) (g (suc i)) (is-known (top {n = i}))))
-  | no ne ↦ rw (ne-eqb k (suc i) ne, known-next i k ne)
-]
-
-upTo-none : {A : Type 0} (f g : ℕ → A) (k : ℕ) → g k ≡ upTo 0 f g k
-unfolding pick
-upTo-none f g zero = refl
-upTo-none f g (suc k) = rw (known-beyond 0 (suc k) (omega arith))
-
--- those of them that name v
-module _ {Val : Type 0} (same : Val → Val → Bool) (v : Val) (r : ℕ → Val) (same-v : same v v ≡ true) where
-  naming : (i k : ℕ) → (firstOf i k && same (upTo i (λ k. v) r k) v) ≡ known i k
-  unfolding pick
-  naming i k = go (known i k)
-    where
-      go : (c : Bool) → (pick c true false && same (pick c v (r k)) v) ≡ c
-      go true = same-v
-      go false = refl
-
-  naming-count : (i n : ℕ) → i ≤ n → count (λ k. firstOf i k && same (upTo i (λ k. v) r k) v) n ≡ i
-  naming-count i n h =
-      let least : min i n ≡ i = omega arith in
-      ap (λ (p : ℕ → Bool). count p n) (λ x k. naming i k x) ∙ count-known i n ∙ least
 
 -- ---- correct fragments, and the script
 
@@ -89,17 +43,13 @@ scriptOf B v f π strays h = record {
   vote = B .write (vote v);
 }
 
-pub and-false : (c : Bool) → (c && false) ≡ false
-and-false true = refl
-and-false false = refl
-
 and-twice : (c : Bool) → (c && (c && true)) ≡ c
 and-twice true = refl
 and-twice false = refl
 
 -- n - t is not 0
 pub none-yet : {n t : ℕ} {C : Code} {B : Line n t C} → LineLaws B → leb (n - t) 0 ≡ false
-none-yet {n} {t} A = lt-leb (n - t) 0 (omega (arith, A .third))
+none-yet {n} {t} A = none-enough n t (A .third)
 
 module _ {n t : ℕ} {C : Code} {B : Line n t C} (A : LineLaws B) (r₀ : ℕ → C .Root) (f₀ : ℕ → C .Frag) {v : C .Root} {f : ℕ → C .Frag} {π : ℕ → C .Path}
     (G : Correct B v f π) where
@@ -108,17 +58,12 @@ module _ {n t : ℕ} {C : Code} {B : Line n t C} (A : LineLaws B) (r₀ : ℕ �
 
   -- ---- the states of board j
 
-  -- of echoes, of votes
-  abbrev each : {D : Type 0} → D → D → Word → D
-  each a b Word.echo = a
-  each a b Word.vote = b
-
   -- the echoes of the boards 1 to a and the votes of the boards 1 to b are kept; said: whether the board itself has voted
-  abbrev cores : ℕ → ℕ → Bool → Core (C .Root)
-  cores a b said = record { spoke = each true said; set = each (firstOf a) (firstOf b); val = each (upTo a (λ k. v) r₀) (upTo b (λ k. v) r₀) }
+  abbrev kept : ℕ → ℕ → Bool → Core (C .Root)
+  kept = cores (λ k. v) v r₀
 
   abbrev states : ℕ → ℕ → ℕ → Bool → Bool → Bool → BoardState B
-  states j a b said out done = record { own = j; core = cores a b said; usable = firstOf a; frag = upTo a f f₀; out = out; done = done }
+  states j a b said out done = record { own = j; core = kept a b said; usable = firstOf a; frag = upTo a f f₀; out = out; done = done }
 
   -- board j after a echoes and b votes: n - t echoes brought its vote, n - t votes its delivery
   abbrev pub stateAt : ℕ → ℕ → ℕ → BoardState B
@@ -127,35 +72,12 @@ module _ {n t : ℕ} {C : Code} {B : Line n t C} (A : LineLaws B) (r₀ : ℕ �
   same-v : B .same v v ≡ true
   same-v = is-true (B .same v v) (A .same-refl v)
 
-  -- one echo more, one vote more
-  keep-echo : (a b : ℕ) (said : Bool) → keep (cores a b said) Word.echo (suc a) v ≡ cores (suc a) b said
-  keep-echo a b said = λ x. record { spoke = each true said; set = λ w k. sets w k x; val = λ w k. vals w k x }
-    where
-      sets : (w : Word) (k : ℕ) → keep (cores a b said) Word.echo (suc a) v .set w k ≡ cores (suc a) b said .set w k
-      sets Word.echo k = upTo-next a (λ k. true) (λ k. false) k
-      sets Word.vote k = refl
-
-      vals : (w : Word) (k : ℕ) → keep (cores a b said) Word.echo (suc a) v .val w k ≡ cores (suc a) b said .val w k
-      vals Word.echo k = upTo-next a (λ k. v) r₀ k
-      vals Word.vote k = refl
-
-  keep-vote : (a b : ℕ) (said : Bool) → keep (cores a b said) Word.vote (suc b) v ≡ cores a (suc b) said
-  keep-vote a b said = λ x. record { spoke = each true said; set = λ w k. sets w k x; val = λ w k. vals w k x }
-    where
-      sets : (w : Word) (k : ℕ) → keep (cores a b said) Word.vote (suc b) v .set w k ≡ cores a (suc b) said .set w k
-      sets Word.echo k = refl
-      sets Word.vote k = upTo-next b (λ k. true) (λ k. false) k
-
-      vals : (w : Word) (k : ℕ) → keep (cores a b said) Word.vote (suc b) v .val w k ≡ cores a (suc b) said .val w k
-      vals Word.echo k = refl
-      vals Word.vote k = upTo-next b (λ k. v) r₀ k
-
   -- ---- the vote, the output stage and the delivery, in numbers
 
   module _ (j a b : ℕ) (said out : Bool) where
     -- with an echo or a vote just kept
     abbrev keeping : BoardState B
-    keeping = record { own = j; core = withVote n t (B .same) (cores a b said) v; usable = firstOf a; frag = upTo a f f₀; out = out; done = out }
+    keeping = record { own = j; core = withVote n t (B .same) (kept a b said) v; usable = firstOf a; frag = upTo a f f₀; out = out; done = out }
 
     abbrev saidNow : Bool
     saidNow = said || dueBy n t a b
@@ -167,22 +89,22 @@ module _ {n t : ℕ} {C : Code} {B : Line n t C} (A : LineLaws B) (r₀ : ℕ �
     endsNow = outNow && (leb (n - t) b && enoughBy n t a)
 
     module _ (la : a ≤ n) (lb : b ≤ n) where
-      due-is : due n t (B .same) (cores a b said) v ≡ dueBy n t a b
-      due-is = λ x. dueBy n t (naming-count (B .same) v r₀ same-v a n la x) (naming-count (B .same) v r₀ same-v b n lb x)
+      due-is : due n t (B .same) (kept a b said) v ≡ dueBy n t a b
+      due-is = Firsts.due-is (B .same) v r₀ (λ k. v) n t a b said lb same-v la (λ k c. same-v)
 
-      quorum-is : quorum n t (B .same) (cores a b said) v ≡ leb (n - t) b
-      quorum-is = λ x. leb (n - t) (naming-count (B .same) v r₀ same-v b n lb x)
+      quorum-is : quorum n t (B .same) (kept a b said) v ≡ leb (n - t) b
+      quorum-is = Firsts.quorum-is (B .same) v r₀ (λ k. v) n t a b said lb same-v
 
       opens-is : opens B keeping v ≡ outNow
       opens-is = λ x. out || ((said || due-is x) && quorum-is x)
 
       ends-is : ends B keeping v ≡ endsNow
-      ends-is = λ x. opens-is x && (quorum-is x && enoughBy n t (naming-count (B .same) v r₀ same-v a n la x))
+      ends-is = λ x. opens-is x && (quorum-is x && enoughBy n t (naming-count (B .same) v r₀ (λ k. v) a n la (λ k c. same-v) x))
 
       settled : settle B keeping v ≡ states j a b saidNow outNow (out || endsNow)
       settled = λ x. record {
         own = j;
-        core = record { spoke = λ w. speaks w x; set = cores a b said .set; val = cores a b said .val };
+        core = record { spoke = λ w. speaks w x; set = kept a b said .set; val = kept a b said .val };
         usable = firstOf a;
         frag = upTo a f f₀;
         out = opens-is x;
@@ -195,7 +117,7 @@ module _ {n t : ℕ} {C : Code} {B : Line n t C} (A : LineLaws B) (r₀ : ℕ �
 
       -- what is delivered then
       result-is : resultAt B keeping v ≡ pick endsNow (some (C .result v (known a) (upTo a f f₀))) none
-      result-is = λ x. pick (ends-is x) (some (C .result v (λ k. naming (B .same) v r₀ same-v a k x) (upTo a f f₀))) none
+      result-is = λ x. pick (ends-is x) (some (C .result v (λ k. naming (B .same) v r₀ (λ k. v) a k (λ k c. same-v) x) (upTo a f f₀))) none
 
   -- ---- one record after the other
 
@@ -223,31 +145,15 @@ module _ {n t : ℕ} {C : Code} {B : Line n t C} (A : LineLaws B) (r₀ : ℕ �
   not-said i b ρ no-echo no-vote (inl q) = no-echo (ap (B .read) q ∙ echo-read i b)
   not-said i b ρ no-echo no-vote (inr q) = no-vote (ap (B .read) q ∙ vote-read)
 
-  first-beyond : (i : ℕ) → firstOf i (suc i) ≡ false
-  unfolding pick
-  first-beyond i = rw (known-beyond i (suc i) (omega arith))
-
   mail-next : (j : ℕ) → Board n j → M .next (M .start j) (hand (B .S) (m j)) ≡ stateAt j 0 0
   mail-next j b = ap (afterAct B (M .start j)) (acquired j b) ∙ (λ x. record {
     own = j;
-    core = record { spoke = λ w. speaks w x; set = λ w k. sets w k x; val = λ w k. vals w k x };
+    core = no-cores (λ k. v) v r₀ (leb (n - t) 0) (none-yet A) x;
     usable = λ k. upTo-none (λ k. true) (λ k. false) k x;
     frag = λ k. upTo-none f f₀ k x;
     out = sym (none-yet A) x;
     done = sym (none-yet A) x;
   })
-    where
-      speaks : (w : Word) → setWord (λ w. false) Word.echo true w ≡ each true (leb (n - t) 0) w
-      speaks Word.echo = refl
-      speaks Word.vote = sym (none-yet A)
-
-      sets : (w : Word) (k : ℕ) → false ≡ each (firstOf 0) (firstOf 0) w k
-      sets Word.echo k = upTo-none (λ k. true) (λ k. false) k
-      sets Word.vote k = upTo-none (λ k. true) (λ k. false) k
-
-      vals : (w : Word) (k : ℕ) → r₀ k ≡ each (upTo 0 (λ k. v) r₀) (upTo 0 (λ k. v) r₀) w k
-      vals Word.echo k = upTo-none (λ k. v) r₀ k
-      vals Word.vote k = upTo-none (λ k. v) r₀ k
 
   mail-puts : (j k : ℕ) → Board n j → M .puts (M .start j) (hand (B .S) (m j)) k ≡ some (e j)
   mail-puts j k b = ap (putsOut B (M .start j)) (acquired j b) ∙ pick-true (C .check v j (f j) (π j)) (some (e j)) none (subst T (sym (G .check j b)) tt)
@@ -261,7 +167,7 @@ module _ {n t : ℕ} {C : Code} {B : Line n t C} (A : LineLaws B) (r₀ : ℕ �
     echo-kept : keepAct B (stateAt j a 0) (take (suc a) (echo v (π (suc a)) (f (suc a)))) ≡ keeping j (suc a) 0 (leb (n - t) a) (leb (n - t) 0)
     echo-kept = λ x. record {
       own = j;
-      core = withVote n t (B .same) (keep-echo a 0 (leb (n - t) a) x) v;
+      core = withVote n t (B .same) (keep-echo (λ k. v) v r₀ a 0 (leb (n - t) a) x) v;
       usable = λ k. is-usable k x;
       frag = λ k. upTo-next a f f₀ k x;
       out = leb (n - t) 0;
@@ -271,21 +177,10 @@ module _ {n t : ℕ} {C : Code} {B : Line n t C} (A : LineLaws B) (r₀ : ℕ �
         is-usable : (k : ℕ) → setAt (firstOf a) (suc a) (C .check v (suc a) (f (suc a)) (π (suc a))) k ≡ firstOf (suc a) k
         is-usable k = ap (λ (c : Bool). setAt (firstOf a) (suc a) c k) (G .check (suc a) next) ∙ upTo-next a (λ k. true) (λ k. false) k
 
-    due-echo : dueBy n t (suc a) 0 ≡ leb (n - t) (suc a)
-    unfolding dueBy
-    due-echo = rw (lt-leb (someBoards t) 0 (omega arith)) (or-false (leb (n - t) (suc a)))
-
-    said-echo : (leb (n - t) a || dueBy n t (suc a) 0) ≡ leb (n - t) (suc a)
-    said-echo = ap (λ (c : Bool). leb (n - t) a || c) due-echo ∙ go (leb (n - t) a) (leb-true (n - t) a)
-      where
-        go : (c : Bool) → (c ≡ true → n - t ≤ a) → (c || leb (n - t) (suc a)) ≡ leb (n - t) (suc a)
-        go true h = let few = h refl in sym (le-leb (n - t) (suc a) (omega arith))
-        go false h = refl
-
     echo-next : M .next (stateAt j a 0) (hand (suc a) (e (suc a))) ≡ stateAt j (suc a) 0
     echo-next =
         ap (afterAct B (stateAt j a 0)) heard ∙ ap (λ s. settle B s v) echo-kept
-        ∙ settled j (suc a) 0 (leb (n - t) a) (leb (n - t) 0) (next .high) (omega arith) ∙ (λ x. states j (suc a) 0 (said-echo x) (no-output x) (no-end x))
+        ∙ settled j (suc a) 0 (leb (n - t) a) (leb (n - t) 0) (next .high) (omega arith) ∙ (λ x. states j (suc a) 0 (said-echo n t (A .third) a x) (no-output x) (no-end x))
       where
         no-output : outNow j (suc a) 0 (leb (n - t) a) (leb (n - t) 0) ≡ leb (n - t) 0
         no-output = rw (none-yet A) (and-false (leb (n - t) a || dueBy n t (suc a) 0))
@@ -296,8 +191,8 @@ module _ {n t : ℕ} {C : Code} {B : Line n t C} (A : LineLaws B) (r₀ : ℕ �
     echo-puts : (k : ℕ) → M .puts (stateAt j a 0) (hand (suc a) (e (suc a))) k ≡ voteOut B (pick (not (leb (n - t) a) && leb (n - t) (suc a)) (some v) none)
     echo-puts k =
         ap (putsOut B (stateAt j a 0)) heard
-        ∙ (λ x. voteOut B (pick (not (leb (n - t) a) && due n t (B .same) (keep-echo a 0 (leb (n - t) a) x) v) (some v) none))
-        ∙ (λ x. voteOut B (pick (not (leb (n - t) a) && (due-is j (suc a) 0 (leb (n - t) a) false (next .high) (omega arith) ∙ due-echo) x) (some v) none))
+        ∙ (λ x. voteOut B (pick (not (leb (n - t) a) && due n t (B .same) (keep-echo (λ k. v) v r₀ a 0 (leb (n - t) a) x) v) (some v) none))
+        ∙ (λ x. voteOut B (pick (not (leb (n - t) a) && (due-is j (suc a) 0 (leb (n - t) a) false (next .high) (omega arith) ∙ due-echo n t (A .third) a) x) (some v) none))
 
   -- vote b + 1, once the boards 1 to h have echoed
   module _ (h : ℕ) (few : n - t ≤ h) (most : h ≤ n) (j b : ℕ) where
@@ -309,7 +204,7 @@ module _ {n t : ℕ} {C : Code} {B : Line n t C} (A : LineLaws B) (r₀ : ℕ �
       vote-kept : keepAct B (stateAt j h b) (take (suc b) (vote v)) ≡ keeping j h (suc b) (leb (n - t) h) (leb (n - t) b)
       vote-kept = λ x. record {
         own = j;
-        core = withVote n t (B .same) (keep-vote h b (leb (n - t) h) x) v;
+        core = withVote n t (B .same) (keep-vote (λ k. v) v r₀ h b (leb (n - t) h) x) v;
         usable = firstOf h;
         frag = upTo h f f₀;
         out = leb (n - t) b;
@@ -366,12 +261,6 @@ module _ {n t : ℕ} {C : Code} {B : Line n t C} (A : LineLaws B) (r₀ : ℕ �
     board-next : (i : ℕ) → i < h → Board n (suc i)
     board-next i l = record { low = omega arith; high = omega arith }
 
-    no-vote : (i : ℕ) → (i ≡ n - t - 1 → ⊥) → (not (leb (n - t) i) && leb (n - t) (suc i)) ≡ false
-    no-vote i ne = elim (decLt i (n - t)) [
-      | yes l ↦ rw (lt-leb (n - t) (suc i) (omega arith)) (and-false (not (leb (n - t) i)))
-      | no l ↦ rw (le-leb (n - t) i (omega arith))
-    ]
-
     -- after i votes
     abbrev votesAt : ℕ → ℕ → BoardState B
     votesAt j i = stateAt j h (min i (n - t))
@@ -410,7 +299,7 @@ module _ {n t : ℕ} {C : Code} {B : Line n t C} (A : LineLaws B) (r₀ : ℕ �
           stray-next = λ j k b c. ap (afterAct B (stateAt j 0 0)) (refused j k b c);
           stray-puts = λ j k a b c. ap (putsOut B (stateAt j 0 0)) (refused j k b c);
           echo-next = λ j i b l. echo-next j i (board-next i l);
-          echo-puts = λ j i a b l ne. echo-puts j i (board-next i l) a ∙ rw (no-vote i ne);
+          echo-puts = λ j i a b l ne. echo-puts j i (board-next i l) a ∙ rw (no-vote n t third i ne);
           echo-votes = λ j a b. echo-puts j (n - t - 1) (board-next (n - t - 1) (omega arith)) a
               ∙ rw (lt-leb (n - t) (n - t - 1) (omega arith), le-leb (n - t) (suc (n - t - 1)) (omega arith));
           echo-last = λ j b. ap (stateAt j h) (sym (within 0 (omega arith)));

@@ -14,9 +14,10 @@ use Rattle.board_step.specs.Step.{Outcome, takenOf, byPlan, stepOf}
 use Rattle.line.specs.Bytes.{bytes}
 use Rattle.line_fragments.specs.Step.{BoardState}
 use Rattle.line_code.specs.Parts.{lineOf}
-use Rattle.line_demand.specs.Boards.{Desk, putIn, givenIn}
+use Rattle.line_desk.specs.Desk.{Desk, putIn}
+use Rattle.line_demand.specs.Boards.{givenIn}
 use Rattle.line_demand.proofs.Agree.{agrees}
-use Rattle.line_demand.proofs.Carry.{Holds}
+use Rattle.line_demand.proofs.Carry.{follows, Holds}
 
 pub record Alike (y z : Outcome) : Type 0 where
   pub answer : y .answer ≡ z .answer
@@ -50,7 +51,9 @@ given-alike y z a = λ i. givenIn (record { answer = a .answer i; state = y .sta
 -- so is what they put out: what the broadcast's step does
 pub put-alike : (b : Table) (j : ℕ) (d : Desk) (x : BoardState (lineOf b)) → Holds b j d x → (i : ℕ) (r : List ℕ) → bytes r ≡ true → (s′ o′ d′ : List ℕ)
     → d .state ≡ s′ → d .delivery ≡ d′ → outBytes ≤ length o′ → putIn (stepOf (d .state) i r (d .out) (d .delivery)) ≡ putIn (stepOf s′ i r o′ d′)
+unfolding follows
 put-alike b j d x h i r e s′ o′ d′ es ed ho =
-    let a = agrees (d .state) (h .is-sound) i r (d .out) (d .delivery) e (h .out) b j (h .table) (h .own) (h .room) (h .delivery) in
-    let c = agrees (d .state) (h .is-sound) i r o′ (d .delivery) e ho b j (h .table) (h .own) (h .room) (h .delivery) in
+    let k = h .shown in
+    let a = agrees (d .state) (k .is-sound) i r (d .out) (d .delivery) e (h .out) b j (k .table) (k .own) (k .room) (h .delivery) in
+    let c = agrees (d .state) (k .is-sound) i r o′ (d .delivery) e ho b j (k .table) (k .own) (k .room) (h .delivery) in
     a .puts ∙ sym (c .puts) ∙ ap₂ (λ (x y : List ℕ). putIn (stepOf x i r o′ y)) es ed

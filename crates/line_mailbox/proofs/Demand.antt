@@ -22,9 +22,11 @@ use Rattle.line.specs.Boards.{Board}
 use Rattle.line.specs.Bytes.{bytes, untouched, called, next, puts, gives}
 use Rattle.line.specs.Run.{Machine, Input, In, hand, tell, Run, fresh, after, state, Took, Put, Delivered, Genuine, Fair, Over}
 use Rattle.line.proofs.Runs.{last-put, no-put, last-given, no-given, step-cases}
-use Rattle.line_demand.specs.Boards.{Desk, Lend, Roomy, Sends, longEnough, lends, fragmentBoard, boards}
-use Rattle.line_demand.proofs.Carry.{begun-some}
-use Rattle.line_demand.proofs.Reached.{started, held}
+use Rattle.line_desk.proofs.Carry.{begun}
+use Rattle.line_desk.specs.Desk.{Desk, Lend, Roomy, longEnough, lends}
+use Rattle.line_demand.specs.Boards.{fragmentKind, Sends, fragmentBoard, boards}
+use Rattle.line_demand.proofs.Carry.{paper, begins, follows}
+use Rattle.line_demand.proofs.Reached.{started, held, run-sound}
 use Rattle.line_demand.specs.Demand.{DemandThree}
 use Rattle.line_demand.proofs.Demand.{demand-three}
 use Rattle.line_mailbox.specs.Polls.{Polls, Trays, emptiedTo, pollPuts, pollGives, itemsTaken, deskAt, PutBy, GaveBy, TookBy, handEach, singly, FairBy, OverBy}
@@ -34,7 +36,7 @@ use Rattle.line_mailbox.proofs.Items.{kept-each, given-each, Level, lev
 use Rattle.line_mailbox.proofs.Polling.{Emptying, emptying}
 
 module _ (b : Table) (limited : limits b ≡ true) (lent : ℕ → Desk) (keeps : ℕ → Bool) (known : (j : ℕ) → T (keeps j) → Board (b .n) j)
-    (roomy : (j : ℕ) → T (keeps j) → Roomy b (lent j)) where
+    (roomy : (j : ℕ) → T (keeps j) → Roomy (fragmentKind b) (lent j)) where
   abbrev BB : Machine
   BB = boards b lent
 
@@ -130,9 +132,9 @@ module _ (b : Table) (limited : limits b ≡ true) (lent : ℕ → Desk) (keeps 
 
   lend-same : (o o′ : Option Desk) → SameAs o o′ → (l : Lend) → SameAs (next (fragmentBoard b) o (tell l)) (next (fragmentBoard b) o′ (tell l))
   unfolding next called
-  lend-same o o′ s l = rw (s .here, s .there) (go (longEnough b l) refl)
+  lend-same o o′ s l = rw (s .here, s .there) (go (longEnough (fragmentKind b) l) refl)
     where
-      go : (c : Bool) → longEnough b l ≡ c → SameAs (some (lends (s .mine) l c)) (some (lends (s .theirs) l c))
+      go : (c : Bool) → longEnough (fragmentKind b) l ≡ c → SameAs (some (lends (s .mine) l c)) (some (lends (s .theirs) l c))
       go true e = record {
         mine = lends (s .mine) l true;
         here = refl;
@@ -152,7 +154,7 @@ module _ (b : Table) (limited : limits b ≡ true) (lent : ℕ → Desk) (keeps 
 
     out-stays : (i : ℕ) (r : List ℕ) → length (stepOf (s .mine .state) i r (s .mine .out) (s .mine .delivery) .out) ≡ length (s .mine .out)
     out-stays i r =
-        let so = held b limited lent keeps roomy (runOf p) k kk (s .theirs) (s .there) .is-sound in
+        let so = run-sound b limited lent keeps roomy (runOf p) k kk (s .theirs) (s .there) in
         stays (s .mine .state) i r (s .mine .out) (s .mine .delivery) (rw (s .state-same) at so) .out
 
     next-same : (x : Input Lend (List ℕ)) → SameAs (next (fragmentBoard b) (deskAt b lent p k) x) (next (fragmentBoard b) (state BB (runOf p) k) x)
@@ -220,7 +222,7 @@ module _ (b : Table) (limited : limits b ≡ true) (lent : ℕ → Desk) (keeps 
   same : (p : Polls) (j : ℕ) → T (keeps j) → SameAs (deskAt b lent p j) (state BB (runOf p) j)
   unfolding deskAt singly state pick
   same Polls.started j kj =
-      let (d, e) = begun-some b j (lent j) (roomy j kj) limited (known j kj) in
+      let (d, e) = begun (fragmentKind b) (paper b) (follows b) lent keeps roomy (b .n) (begins b limited) j kj (known j kj) in
       record {
         mine = d;
         here = e;

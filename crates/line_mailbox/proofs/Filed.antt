@@ -30,7 +30,8 @@ use Rattle.board_mailbox.proofs.Handing.{voting, said-short}
 use Rattle.board_mailbox.proofs.OneOfEach.{is-echo, is-vote, put-is, echo-steps, vote-steps, delivery-steps}
 use Rattle.board_mailbox.proofs.Walk.{OpenFor}
 use Rattle.line.proofs.Tests.{none-some}
-use Rattle.line_demand.specs.Boards.{recordIn, deliveredIn, putIn, givenIn}
+use Rattle.line_desk.specs.Desk.{recordIn, putIn}
+use Rattle.line_demand.specs.Boards.{deliveredIn, givenIn}
 use Rattle.line_mailbox.proofs.Items.{PutIn, GaveIn}
 use Rattle.line_mailbox.proofs.Slots.{Slot, DoesIn}
 

@@ -20,9 +20,11 @@ use Rattle.line.specs.Bytes.{bytes, untouched, called, next, puts, gives}
 use Rattle.line.specs.Run.{Machine, hand, Run, after, state, Put, Delivered}
 use Rattle.line.specs.Project.{project}
 use Rattle.line.proofs.Runs.{state-own, last-put, last-given}
-use Rattle.line_demand.specs.Boards.{Desk, Roomy, putIn, givenIn, fragmentBoard, boards}
+use Rattle.line_desk.proofs.Carry.{sees}
+use Rattle.line_desk.specs.Desk.{Desk, Roomy, putIn}
+use Rattle.line_demand.specs.Boards.{fragmentKind, givenIn, fragmentBoard, boards}
 use Rattle.line_demand.proofs.Started.{broadcast}
-use Rattle.line_demand.proofs.Carry.{sees, Holds}
+use Rattle.line_demand.proofs.Carry.{Holds}
 use Rattle.line_demand.proofs.Reached.{held}
 use Rattle.line_mailbox.specs.Polls.{handEach}
 use Rattle.line_mailbox.proofs.Alike.{Alike, step-alike, given-alike, put-alike}
@@ -61,7 +63,7 @@ module _ (b : Table) (lent : ℕ → Desk) where
   given-each [] k p = p
   given-each (item ∷ rest) k p = given-each rest k (Delivered.then p)
 
-module _ (b : Table) (limited : limits b ≡ true) (lent : ℕ → Desk) (keeps : ℕ → Bool) (roomy : (j : ℕ) → T (keeps j) → Roomy b (lent j)) (k : ℕ) (kk : T (keeps k)) where
+module _ (b : Table) (limited : limits b ≡ true) (lent : ℕ → Desk) (keeps : ℕ → Bool) (roomy : (j : ℕ) → T (keeps j) → Roomy (fragmentKind b) (lent j)) (k : ℕ) (kk : T (keeps k)) where
   abbrev BB : Machine
   BB = boards b lent
 

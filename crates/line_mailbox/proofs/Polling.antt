@@ -20,7 +20,8 @@ use Rattle.line.specs.Bytes.{bytes}
 use Rattle.line.specs.Run.{state}
 use Rattle.line.proofs.Tests.{none-some}
 use Rattle.line_code.proofs.ByteLaws.{all-bytes, bytes-all}
-use Rattle.line_demand.specs.Boards.{Desk, putIn, givenIn}
+use Rattle.line_desk.specs.Desk.{Desk, putIn}
+use Rattle.line_demand.specs.Boards.{givenIn}
 use Rattle.line_mailbox.specs.Polls.{Trays, emptiedTo, oneOf, recordsIn, pollPuts, pollGives, itemsTaken}
 use Rattle.line_mailbox.proofs.Items.{AllBytes, PutIn, GaveIn}
 use Rattle.line_mailbox.proofs.Slots.{DoesIn, stands, stands-why}

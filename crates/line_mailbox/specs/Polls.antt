@@ -12,7 +12,8 @@ use Rattle.mailbox.specs.Items.{Item, itemsOf}
 use Rattle.board_mailbox.specs.Emptied.{Emptied, mailboxOf}
 use Rattle.line.specs.Bytes.{bytes, next, puts, gives}
 use Rattle.line.specs.Run.{Input, hand, Run, fresh, after}
-use Rattle.line_demand.specs.Boards.{Desk, Lend, recordIn, deliveredIn, begin, fragmentBoard, boards}
+use Rattle.line_desk.specs.Desk.{Desk, Lend, recordIn, begin}
+use Rattle.line_demand.specs.Boards.{fragmentKind, deliveredIn, fragmentBoard, boards}
 
 -- what the firmware lends with a mailbox: buffers for the answers, for an echo and for a vote
 pub record Trays : Type 0 where
@@ -66,7 +67,7 @@ itemsTaken (some d) box t = pick (bytes box && eqb (mailboxIn d box t .answer .n
 module _ (b : Table) (lent : ℕ → Desk) where
   -- what board j holds at the end of a history
   unfoldable pub deskAt : Polls → ℕ → Option Desk
-  deskAt started j = begin b j (lent j)
+  deskAt started j = begin (fragmentKind b) j (lent j)
   deskAt (took p k x) j = pick (eqb k j) (next (fragmentBoard b) (deskAt p j) x) (deskAt p j)
   deskAt (polled p k box t) j = pick (eqb k j) (emptiedTo (deskAt p j) box t) (deskAt p j)
 

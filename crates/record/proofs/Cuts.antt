@@ -19,56 +19,66 @@ use Rattle.record.proofs.Facts.{Whole, whole}
 
 -- ---- every fault is listed, and its place is in the record or at its end
 
--- what is read of a record of n bytes names a listed fault at a place up to n
-pub Placed : ℕ → Read → Type 0
-Placed n (Form k p f) = Unit {0}
-Placed n (Fault why at) = (20 ≤ why) × (why ≤ 25) × (at ≤ n)
+-- what is read of a record of n bytes names a fault of a list at a place up to n
+unfoldable pub Placed : (ℕ → Type 0) → ℕ → Read → Type 0
+Placed Listed n (Form k p f) = Unit {0}
+Placed Listed n (Fault why at) = Listed why × (at ≤ n)
 
-need-placed : (s : List ℕ) (a n : ℕ) (next : Read) → a ≤ length s → (a + n ≤ length s → Placed (length s) next) → Placed (length s) (need s a n next)
-unfolding Placed pick
-need-placed s a n next l h = go (leb (a + n) (length s)) refl
-  where
-    go : (b : Bool) → leb (a + n) (length s) ≡ b → Placed (length s) (pick b next (Fault 20 a))
-    go true e = h (leb-true (a + n) (length s) e)
-    go false e = (omega arith, omega arith, l)
+module _ (Listed : ℕ → Type 0) where
+  pub need-placed : Listed 20 → (s : List ℕ) (a n : ℕ) (next : Read) → a ≤ length s → (a + n ≤ length s → Placed Listed (length s) next)
+      → Placed Listed (length s) (need s a n next)
+  unfolding Placed pick
+  need-placed q s a n next l h = go (leb (a + n) (length s)) refl
+    where
+      go : (b : Bool) → leb (a + n) (length s) ≡ b → Placed Listed (length s) (pick b next (Fault 20 a))
+      go true e = h (leb-true (a + n) (length s) e)
+      go false e = (q, l)
 
-field-placed : (n : ℕ) (ok : Bool) (why a : ℕ) (next : Read) → 20 ≤ why → why ≤ 25 → a ≤ n → (ok ≡ true → Placed n next) → Placed n (field ok why a next)
-unfolding Placed pick
-field-placed n true why a next l m h g = g refl
-field-placed n false why a next l m h g = (l, m, h)
+  pub field-placed : (n : ℕ) (ok : Bool) (why a : ℕ) (next : Read) → Listed why → a ≤ n → (ok ≡ true → Placed Listed n next)
+      → Placed Listed n (field ok why a next)
+  unfolding Placed pick
+  field-placed n true why a next q h g = g refl
+  field-placed n false why a next q h g = (q, h)
 
-fragment-placed : (s : List ℕ) (k p a : ℕ) → a ≤ length s → Placed (length s) (parseFragment s k p a)
+-- the faults of a record
+abbrev Few : ℕ → Type 0
+Few why = (20 ≤ why) × (why ≤ 25)
+
+few20 : Few 20
+few20 = (omega arith, omega arith)
+
+fragment-placed : (s : List ℕ) (k p a : ℕ) → a ≤ length s → Placed Few (length s) (parseFragment s k p a)
 unfolding parseFragment Placed
 fragment-placed s k p a l =
-    need-placed s a 2 _ l (λ h.
-    field-placed (length s) (fragmentOk k (twoAt s a)) 24 a _ (omega arith) (omega arith) l (λ _.
-    need-placed s (a + 2) (twoAt s a) _ h (λ g.
-    field-placed (length s) (leb (length s) (a + 2 + twoAt s a)) 25 (a + 2 + twoAt s a) _ (omega arith) (omega arith) g (λ _. tt))))
+    need-placed Few few20 s a 2 _ l (λ h.
+    field-placed Few (length s) (fragmentOk k (twoAt s a)) 24 a _ (omega arith, omega arith) l (λ _.
+    need-placed Few few20 s (a + 2) (twoAt s a) _ h (λ g.
+    field-placed Few (length s) (leb (length s) (a + 2 + twoAt s a)) 25 (a + 2 + twoAt s a) _ (omega arith, omega arith) g (λ _. tt))))
 
-path-placed : (s : List ℕ) (k : ℕ) → 35 ≤ length s → Placed (length s) (parsePath s k)
+path-placed : (s : List ℕ) (k : ℕ) → 35 ≤ length s → Placed Few (length s) (parsePath s k)
 unfolding parsePath
 path-placed s k l =
-    need-placed s 35 2 _ l (λ h.
-    field-placed (length s) (leb (twoAt s 35) (nodesMost k)) 23 35 _ (omega arith) (omega arith) l (λ _.
-    need-placed s 37 (32 * twoAt s 35) _ h (λ g. fragment-placed s k (twoAt s 35) (37 + 32 * twoAt s 35) g)))
+    need-placed Few few20 s 35 2 _ l (λ h.
+    field-placed Few (length s) (leb (twoAt s 35) (nodesMost k)) 23 35 _ (omega arith, omega arith) l (λ _.
+    need-placed Few few20 s 37 (32 * twoAt s 35) _ h (λ g. fragment-placed s k (twoAt s 35) (37 + 32 * twoAt s 35) g)))
 
-root-placed : (s : List ℕ) (k : ℕ) → 1 ≤ length s → Placed (length s) (parseRoot s k)
+root-placed : (s : List ℕ) (k : ℕ) → 1 ≤ length s → Placed Few (length s) (parseRoot s k)
 unfolding parseRoot
 root-placed s k l =
-    need-placed s 1 2 _ l (λ h.
-    field-placed (length s) (eqb (twoAt s 1) 32) 22 1 _ (omega arith) (omega arith) l (λ _.
-    need-placed s 3 32 _ h (λ g. path-placed s k g)))
+    need-placed Few few20 s 1 2 _ l (λ h.
+    field-placed Few (length s) (eqb (twoAt s 1) 32) 22 1 _ (omega arith, omega arith) l (λ _.
+    need-placed Few few20 s 3 32 _ h (λ g. path-placed s k g)))
 
-pub placed : (s : List ℕ) → Placed (length s) (parse s)
+placed : (s : List ℕ) → Placed Few (length s) (parse s)
 unfolding parse
 placed s =
-    need-placed s 0 1 _ (omega arith) (λ h.
-    field-placed (length s) (isKind (getD s 0 0)) 21 0 _ (omega arith) (omega arith) (omega arith) (λ _. root-placed s (getD s 0 0) h))
+    need-placed Few few20 s 0 1 _ (omega arith) (λ h.
+    field-placed Few (length s) (isKind (getD s 0 0)) 21 0 _ (omega arith, omega arith) (omega arith) (λ _. root-placed s (getD s 0 0) h))
 
 -- "the offset is at most the record's length", and the number is one of 20 to 25
 pub fault-placed : (s : List ℕ) (why at : ℕ) → parse s ≡ Fault why at → (20 ≤ why) × (why ≤ 25) × (at ≤ length s)
 unfolding Placed
-fault-placed s why at e = rw e at (placed s)
+fault-placed s why at e = let q : Few why × (at ≤ length s) = rw e at (placed s) in (q .0 .0, q .0 .1, q .1)
 
 -- ---- a cut
 

@@ -15,7 +15,8 @@ use Rattle.octets.specs.Bytes.{pick, twoAt, two, part}
 use Rattle.record.specs.Form.{parse, parseRoot, parsePath, parseFragment, isKind, nodesMost, fragmentOk, recordOf}
 use Rattle.record.specs.declared.Read.the-variants.{Form}
 
-two-mid : (v w : List ℕ) (x a : ℕ) → length v ≡ a → x < 65536 → twoAt (v ++ (two x ++ w)) a ≡ x
+-- a two-byte number within a string is read
+pub two-mid : (v w : List ℕ) (x a : ℕ) → length v ≡ a → x < 65536 → twoAt (v ++ (two x ++ w)) a ≡ x
 two-mid v w x a e h =
     let p : getD (v ++ (two x ++ w)) (length v + 0) 0 ≡ x / 256 % 256 = getD-append-add v (two x ++ w) 0 0 in
     let q : getD (v ++ (two x ++ w)) (length v + 1) 0 ≡ x % 256 = getD-append-add v (two x ++ w) 1 0 in
@@ -64,14 +65,14 @@ two-of x y h k =
     rw (e, f)
 
 -- bytes from a on: a two-byte number and the rest; a part and the rest
-drop-two : (s : List ℕ) (a b n : ℕ) → ((i : ℕ) → getD s i 0 < 256) → a + 2 ≡ b → b ≤ length s → twoAt s a ≡ n → drop a s ≡ two n ++ drop b s
+pub drop-two : (s : List ℕ) (a b n : ℕ) → ((i : ℕ) → getD s i 0 < 256) → a + 2 ≡ b → b ≤ length s → twoAt s a ≡ n → drop a s ≡ two n ++ drop b s
 drop-two s a b n h e l t =
     drop-cons s a 0 (omega arith)
     ∙ ap (λ (x : List ℕ). getD s a 0 ∷ x) (ap (λ (i : ℕ). drop i s) (sym (add-one a)) ∙ drop-cons s (a + 1) 0 (omega arith))
     ∙ ap (λ (i : ℕ). getD s a 0 ∷ getD s (a + 1) 0 ∷ drop i s) (let z : suc (a + 1) ≡ b = omega arith in z)
     ∙ ap (λ (x : List ℕ). x ++ drop b s) (sym (two-of (getD s a 0) (getD s (a + 1) 0) (h a) (h (a + 1))) ∙ ap two t)
 
-drop-part : (s : List ℕ) (a n b : ℕ) → a + n ≡ b → drop a s ≡ part a n s ++ drop b s
+pub drop-part : (s : List ℕ) (a n b : ℕ) → a + n ≡ b → drop a s ≡ part a n s ++ drop b s
 unfolding part
 drop-part s a n b e = sym (take-append-drop n (drop a s)) ∙ ap (λ (x : List ℕ). take n (drop a s) ++ x) (drop-drop n a s ∙ ap (λ (i : ℕ). drop i s) e)
 

@@ -22,7 +22,7 @@ unfolding naming
 naming-few n set root r =
     omega (arith, ones-within (λ i. has set i && same (root i) r) set 0 n (λ i h. and-l (has set i) (same (root i) r) h), ap ones (div-one set))
 
-and-none : (a b : Bool) → b ≡ false → a && b ≡ false
+pub and-none : (a b : Bool) → b ≡ false → a && b ≡ false
 and-none true b e = e
 and-none false b e = refl
 

@@ -21,7 +21,7 @@ pub record Fit (m : Marks) : Type 0 where
   pub usable : m .usable < 18446744073709551616
   pub votes : m .votes < 18446744073709551616
 
-flag-bit : (b : Bool) → not (eqb (bit b) 0) ≡ b
+pub flag-bit : (b : Bool) → not (eqb (bit b) 0) ≡ b
 flag-bit true = refl
 flag-bit false = refl
 

@@ -1,23 +1,18 @@
 // A board's state in a lent buffer.
 use octets::eight_at;
 use octets::put_eight;
-use octets::same_at;
 use octets::two_at;
 use octets::wide;
 use table::Table;
 use table::fragment_most;
-use table::has_board;
-use table::size;
 ghost use mathlib.Core.Path.{_≡_};
-ghost use mathlib.Core.Bool.{true, _&&_};
-ghost use Prim.Native.Nat.{_+_, _*_, _≤_, _<_};
+ghost use mathlib.Core.Bool.{true};
+ghost use Prim.Native.Nat.{_≤_};
 ghost use lib.ListN.{length};
-ghost use lib.Count.{ones};
-ghost use Rattle.octets.specs.Bytes.{part, put, same};
-ghost use Rattle.octets.specs.Sets.{has, bit};
+ghost use Rattle.octets.specs.Bytes.{put};
+ghost use Rattle.octets.specs.Sets.{bit};
 ghost use Rattle.table.specs.Table.{limits};
-ghost use Rattle.state.specs.State.{marksAt, voteRoots, fixedBytes, stateSize, tableOf, ownOf, marksOf, marksBytes};
-ghost use Rattle.state.specs.Sound.{naming};
+ghost use Rattle.state.specs.State.{marksAt, fixedBytes, stateSize, tableOf, ownOf, marksOf, marksBytes};
 
 // The first bytes of a state, all that soundness looks at; the fragments kept follow.
 pub const FIXED_BYTES: usize = 4608;
@@ -50,6 +45,26 @@ pub const KEPT_LENGTHS: usize = 40;
 pub const ECHO_ROOTS: usize = 256;
 
 pub const VOTE_ROOTS: usize = 2304;
+
+// Where a value of each board is kept: board i + 1's at base + room * i. A sized place begins with a byte that says how many follow.
+pub struct Places {
+    pub base: usize,
+    pub room: usize,
+    pub sized: bool,
+}
+
+// Where the roots are kept.
+pub const ECHO_PLACES: Places = Places {
+    base: ECHO_ROOTS,
+    room: 32,
+    sized: false,
+};
+
+pub const VOTE_PLACES: Places = Places {
+    base: VOTE_ROOTS,
+    room: 32,
+    sized: false,
+};
 
 // What a state keeps beside the table, roots, lengths and fragments. Board i is bit i - 1 of a set.
 pub struct Marks {
@@ -108,7 +123,7 @@ pub fn read_marks(s: &[u8]) -> Marks
 }
 
 // A flag's byte.
-fn flag_byte(b: bool) -> u8
+pub fn flag_byte(b: bool) -> u8
     ensures { λ r. ⌜ r ≡ bit b ⌝ }
 {
     if b { 1 } else { 0 }
@@ -126,44 +141,4 @@ pub fn write_marks(s: &mut [u8], m: Marks)
     put_eight(s, ECHOES, m.echoes);
     put_eight(s, USABLE, m.usable);
     put_eight(s, VOTES, m.votes);
-}
-
-// A set's lowest bit.
-fn set_bit(b: bool) -> u64
-    ensures { λ r. ⌜ (r ≡ bit b) × (r ≤ 1) ⌝ }
-{
-    if b { 1 } else { 0 }
-}
-
-// Whether board i + 1 is in the set and its root, kept from `base` on, is the one in `r` at `at`.
-fn names(s: &[u8], base: usize, set: u64, r: &[u8], at: usize, i: usize) -> bool
-    requires { ⌜ (fixedBytes ≤ length (now s)) × ((base ≤ voteRoots) × ((at + 32 ≤ length (now r)) × (i < 64))) ⌝ }
-    ensures { λ x. ⌜ x ≡ (has set i && same (part (base + 32 * i) 32 (now (s .entry))) (part at 32 (now (r .entry)))) ⌝ }
-{
-    if !has_board(set, i) {
-        return false;
-    }
-    same_at(s, base + 32 * i, r, at, 32)
-}
-
-// The boards of a set whose roots, kept from `base` on, are the one in `r` at `at`.
-pub fn naming_set(s: &[u8], base: usize, set: u64, r: &[u8], at: usize, n: usize) -> u64
-    requires { ⌜ (fixedBytes ≤ length (now s)) × ((base ≤ voteRoots) × ((at + 32 ≤ length (now r)) × (n ≤ 64))) ⌝ }
-    ensures { λ x. ⌜ x ≡ naming n set (λ i. part (base + 32 * i) 32 (now (s .entry))) (part at 32 (now (r .entry))) ⌝ }
-{
-    let mut found = 0u64;
-    let mut i = n;
-    while 0 < i {
-        i -= 1;
-        found = found * 2 + set_bit(names(s, base, set, r, at, i));
-    }
-    found
-}
-
-// How many boards these are.
-pub fn naming_count(s: &[u8], base: usize, set: u64, r: &[u8], at: usize, n: usize) -> usize
-    requires { ⌜ (fixedBytes ≤ length (now s)) × ((base ≤ voteRoots) × ((at + 32 ≤ length (now r)) × (n ≤ 64))) ⌝ }
-    ensures { λ x. ⌜ x ≡ ones (naming n set (λ i. part (base + 32 * i) 32 (now (s .entry))) (part at 32 (now (r .entry)))) ⌝ }
-{
-    size(naming_set(s, base, set, r, at, n))
 }

@@ -1,10 +1,12 @@
 // Whether a board's state is sound.
+use naming::naming_count;
+use naming::reached;
 use octets::two_at;
-use state::ECHO_ROOTS;
+use state::ECHO_PLACES;
 use state::KEPT_LENGTHS;
 use state::Marks;
+use state::VOTE_PLACES;
 use state::VOTE_ROOTS;
-use state::naming_count;
 use state::read_marks;
 use state::read_own;
 use state::read_table;
@@ -15,47 +17,14 @@ use table::fragments_needed;
 use table::has_board;
 use table::in_limits;
 use table::is_board;
-use table::size;
 ghost use mathlib.Core.Path.{_≡_};
-ghost use mathlib.Core.Bool.{true, not, _&&_, _||_};
-ghost use Prim.Native.Nat.{_+_, _*_, _≤_, _<_};
+ghost use mathlib.Core.Bool.{true, not, _||_};
+ghost use Prim.Native.Nat.{_≤_, _<_};
 ghost use lib.ListN.{length};
-ghost use lib.Count.{ones};
-ghost use lib.Dec.{leb};
-ghost use Rattle.octets.specs.Bytes.{part};
-ghost use Rattle.octets.specs.Sets.{has, every};
+ghost use Rattle.octets.specs.Sets.{every};
 ghost use Rattle.table.specs.Table.{limits, sMax};
-ghost use Rattle.state.specs.State.{voteRoots, fixedBytes, view, viewOf};
-ghost use Rattle.state.specs.Sound.{setsOk, flagsOk, boardOk, naming, reaches, waitsAt, waits, quiet, sound};
-
-// Whether board i + 1 of the set names a root that at least q of the set name.
-fn backed(s: &[u8], base: usize, set: u64, n: usize, q: usize, i: usize) -> bool
-    requires { ⌜ (fixedBytes ≤ length (now s)) × ((base ≤ voteRoots) × ((n ≤ 64) × (i < 64))) ⌝ }
-    ensures { λ r. ⌜ r ≡ (has set i && leb q (ones (naming n set (λ j. part (base + 32 * j) 32 (now (s .entry))) (part (base + 32 * i) 32 (now (s .entry)))))) ⌝ }
-{
-    if !has_board(set, i) {
-        return false;
-    }
-    q <= naming_count(s, base, set, s, base + 32 * i, n)
-}
-
-// Whether some root is named by at least q boards of the set. Fewer than q boards name none so often.
-fn reached(s: &[u8], base: usize, set: u64, n: usize, q: usize) -> bool
-    requires { ⌜ (fixedBytes ≤ length (now s)) × ((base ≤ voteRoots) × (n ≤ 64)) ⌝ }
-    ensures { λ r. ⌜ r ≡ reaches n q set (λ j. part (base + 32 * j) 32 (now (s .entry))) ⌝ }
-{
-    if size(set) < q {
-        return false;
-    }
-    let mut i = 0;
-    while i < n {
-        if backed(s, base, set, n, q, i) {
-            return true;
-        }
-        i += 1;
-    }
-    false
-}
+ghost use Rattle.state.specs.State.{fixedBytes, view, viewOf};
+ghost use Rattle.state.specs.Sound.{setsOk, flagsOk, boardOk, waitsAt, waits, quiet, sound};
 
 // Whether the root that board i + 1 voted for has n - t votes and fewer than k usable echoes.
 fn waits_at(s: &[u8], b: Table, m: Marks, i: usize) -> bool
@@ -65,10 +34,10 @@ fn waits_at(s: &[u8], b: Table, m: Marks, i: usize) -> bool
     if !has_board(m.votes, i) {
         return false;
     }
-    if naming_count(s, VOTE_ROOTS, m.votes, s, VOTE_ROOTS + 32 * i, b.n) < b.n - b.t {
+    if naming_count(s, VOTE_PLACES, m.votes, s, VOTE_ROOTS + 32 * i, b.n) < b.n - b.t {
         return false;
     }
-    naming_count(s, ECHO_ROOTS, m.usable, s, VOTE_ROOTS + 32 * i, b.n) < fragments_needed(b)
+    naming_count(s, ECHO_PLACES, m.usable, s, VOTE_ROOTS + 32 * i, b.n) < fragments_needed(b)
 }
 
 // Whether a root has n - t votes and fewer than k usable echoes.
@@ -88,7 +57,7 @@ fn waiting(s: &[u8], b: Table, m: Marks) -> bool
 }
 
 // Whether one test implies another.
-fn implies(a: bool, b: bool) -> bool
+pub fn implies(a: bool, b: bool) -> bool
     ensures { λ r. ⌜ r ≡ (not a || b) ⌝ }
 {
     if a { b } else { true }
@@ -165,12 +134,12 @@ fn is_quiet(s: &[u8], b: Table, m: Marks) -> bool
         return waiting(s, b, m);
     }
     if m.voted {
-        return !reached(s, VOTE_ROOTS, m.votes, b.n, b.n - b.t);
+        return !reached(s, VOTE_PLACES, m.votes, b.n, b.n - b.t);
     }
-    if reached(s, ECHO_ROOTS, m.echoes, b.n, b.n - b.t) {
+    if reached(s, ECHO_PLACES, m.echoes, b.n, b.n - b.t) {
         return false;
     }
-    !reached(s, VOTE_ROOTS, m.votes, b.n, b.t + 1)
+    !reached(s, VOTE_PLACES, m.votes, b.n, b.t + 1)
 }
 
 // Whether the state is sound.

@@ -13,16 +13,20 @@ use Rattle.record.specs.declared.Written.{Written}
 use Rattle.record.proofs.PartLaws.{known, parts-fit}
 use Rattle.record.proofs.Sections.{record-length}
 use Rattle.tumbeliko.specs.declared.Parts.{Parts}
-use Rattle.tumbeliko.specs.Records.{partsOf, wrote, writeBy, writeOf}
+use Rattle.tumbeliko.specs.Records.{Wrote, partsOf, wrote, writeBy, writeOf}
 
 -- ---- what a promise fixes is one thing only
 
 pub read-record-one : (s : List ℕ) (x y : Parts) → x ≡ partsOf (parse s) → y ≡ partsOf (parse s) → x ≡ y
 read-record-one s x y e g = e ∙ sym g
 
+-- an answer and what is written with it
+pub wrote-one : (z : Wrote) (x y : Written) (ox oy : List ℕ) → wrote x ox ≡ z → wrote y oy ≡ z → (x ≡ y) × (ox ≡ oy)
+wrote-one z x y ox oy e g = let q = e ∙ sym g in (ap (λ w. w .answer) q, ap (λ w. w .out) q)
+
 pub write-record-one : (kind : ℕ) (root path fragment out : List ℕ) (x y : Written) (ox oy : List ℕ)
     → wrote x ox ≡ writeOf kind root path fragment out → wrote y oy ≡ writeOf kind root path fragment out → (x ≡ y) × (ox ≡ oy)
-write-record-one kind root path fragment out x y ox oy e g = let z = e ∙ sym g in (ap (λ w. w .answer) z, ap (λ w. w .out) z)
+write-record-one kind root path fragment out x y ox oy e g = wrote-one (writeOf kind root path fragment out) x y ox oy e g
 
 -- ---- writing
 

@@ -14,12 +14,17 @@ ghost use Rattle.code_calls.specs.Hashing.{hashOf};
 ghost use Rattle.code_calls.specs.Encoding.{encoded, encodeOf};
 ghost use Rattle.code_calls.specs.Rebuilding.{Rebuilds};
 ghost use Rattle.code_calls.specs.Reading.{readOut, readOf};
+ghost use Rattle.notice.specs.Form.{parseNotice};
 ghost use Rattle.board.specs.Started.{begun, startOf};
 ghost use Rattle.board_send.specs.Sent.{sendOut, sendOf};
 ghost use Rattle.board_step.specs.Step.{outcome, stepOf};
 ghost use Rattle.board_mailbox.specs.Emptied.{emptied, mailboxOf};
+ghost use Rattle.notice_step.specs.Started.{noticeStartOf};
+ghost use Rattle.notice_step.specs.Step.{noticeStepOf};
+ghost use Rattle.notice_step.specs.Sent.{noticeSendOf};
 ghost use Rattle.tumbeliko.specs.Tables.{tableFrom};
 ghost use Rattle.tumbeliko.specs.Records.{partsOf, wrote, writeOf};
+ghost use Rattle.tumbeliko.specs.Notices.{noticePartsOf, noticeWriteOf};
 
 // The parts of a record: the refusal's number, or 0, and the place of the field at fault; the kind, the path's nodes and the fragment's bytes.
 #[repr(C)]
@@ -29,6 +34,15 @@ pub struct Parts {
     pub kind: u32,
     pub nodes: u32,
     pub fragment_length: u32,
+}
+
+// The parts of a notice record: the refusal's number, or 0, and the place of the field at fault; the kind and the notice's bytes.
+#[repr(C)]
+pub struct Notice {
+    pub number: u32,
+    pub offset: u32,
+    pub kind: u32,
+    pub length: u32,
 }
 
 // The four numbers as a table.
@@ -232,4 +246,94 @@ pub extern "C" fn tumbeliko_send(
     ensures { λ r. ⌜ sendOut r (now (out .exit)) ≡ sendOf (tableFrom n t sender longest) (now (message .entry)) to (now (out .entry)) ⌝ }
 {
     board_send::send(table(n, t, sender, longest), message, to as usize, out)
+}
+
+// The parts of a notice record; 20, 21, 24, 25. The notice is at byte 3.
+#[no_mangle]
+pub extern "C" fn tumbeliko_read_notice(record: &[u8]) -> Notice
+    ensures { λ r. ⌜ r ≡ noticePartsOf (parseNotice (now («record» .entry))) ⌝ }
+{
+    match notice::read_notice(record) {
+        Read::Form {
+            kind,
+            nodes: _,
+            len,
+        } => Notice {
+            number: 0,
+            offset: 0,
+            kind: kind as u32,
+            length: len as u32,
+        },
+        Read::Fault { why, at } => Notice {
+            number: why,
+            offset: at,
+            kind: 0,
+            length: 0,
+        },
+    }
+}
+
+// A record of this notice; 2, 21, 24.
+#[no_mangle]
+pub extern "C" fn tumbeliko_write_notice(kind: u32, notice: &[u8], out: &mut [u8]) -> Written
+    ensures { λ r. ⌜ wrote r (now (out .exit)) ≡ noticeWriteOf kind (now (notice .entry)) (now (out .entry)) ⌝ }
+{
+    if out.len() < notice::OUT_BYTES {
+        return answered(2, 0, 0);
+    }
+    match notice::form_of(kind, notice.len()) {
+        Read::Fault { why, at } => answered(why, at, 0),
+        Read::Form {
+            kind,
+            nodes: _,
+            len,
+        } => {
+            notice::write_notice(out, kind, notice);
+            answered(0, 0, (3 + len) as u32)
+        }
+    }
+}
+
+// A fresh state of a notice board; 1, 2.
+#[no_mangle]
+pub extern "C" fn tumbeliko_notice_start(
+    n: u32,
+    t: u32,
+    sender: u32,
+    own: u32,
+    state: &mut [u8],
+) -> u32
+    ensures { λ r. ⌜ begun r (now (state .exit)) ≡ noticeStartOf (tableFrom n t sender 0) own (now (state .entry)) ⌝ }
+{
+    notice_step::start(table(n, t, sender, 0), own as usize, state)
+}
+
+// One record through a notice board's step; 2 at once for a state under 8,352 bytes, then 3, 2, 4, 20, 21, 24, 25, 6, 8, 9.
+#[no_mangle]
+pub extern "C" fn tumbeliko_notice_step(
+    state: &mut [u8],
+    from: u32,
+    record: &[u8],
+    out: &mut [u8],
+    delivery: &mut [u8],
+) -> Stepped
+    ensures { λ r. ⌜ outcome r (now (state .exit)) (now (out .exit)) (now (delivery .exit))
+        ≡ noticeStepOf (now (state .entry)) from (now («record» .entry)) (now (out .entry)) (now (delivery .entry)) ⌝ }
+{
+    notice_step::step(state, from as usize, record, out, delivery)
+}
+
+// The sender's notice record for one board; 1, 2, 4, 13.
+#[no_mangle]
+pub extern "C" fn tumbeliko_notice_send(
+    n: u32,
+    t: u32,
+    sender: u32,
+    notice: &[u8],
+    to: u32,
+    out: &mut [u8],
+) -> Sized
+    ensures { λ r. ⌜ sendOut r (now (out .exit)) ≡ noticeSendOf (tableFrom n t sender 0) (now (notice .entry)) to (now (out .entry)) ⌝ }
+{
+    notice_step::send(table(n, t, sender, 0), notice, to as usize, out)
 }

@@ -1,0 +1,3 @@
+-- Laws of the definitions, for the crates above.
+pub mod Values
+pub mod Sized

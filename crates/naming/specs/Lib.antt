@@ -1,0 +1,2 @@
+-- What the contracts of `naming` cite.
+pub mod Value
