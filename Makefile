@@ -23,7 +23,7 @@ endif
 endif
 
 CRATES    = crates.txt $(wildcard crates/*/src/*.rt crates/*/specs/*.antt crates/*/proofs/*.antt crates/*/proofs/*/*.antt)
-REFERENCE = tests/reference/hash.c tests/reference/code.c tests/reference/board.c tests/reference/drill.c
+REFERENCE = tests/reference/hash.c tests/reference/code.c tests/reference/board.c tests/reference/notice.c tests/reference/drill.c
 HARNESS   = tests/harness.c
 TREES     = tests/trees.c
 STATES    = tests/states.c $(TREES)
@@ -32,6 +32,7 @@ LINE      = $(wildcard examples/line/*.c examples/line/*.h)
 PROGRAM   = $(wildcard tools/*.c tools/*.h)
 FUZZ      = fuzz/fuzz.c fuzz/drawn.c fuzz/ground.c fuzz/board.c fuzz/drill.c
 HEADERS   = include/tumbeliko.h include/drill.h tests/harness.h tests/trees.h tests/states.h tests/mail.h tests/reference/reference.h \
+            tests/reference/fields.h \
             bench/plain.h bench/clock.h
 BUILD     = $(CC) $(CFLAGS) $(CPPFLAGS) -Iinclude -Itests $(LINK)
 

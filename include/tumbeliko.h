@@ -6,6 +6,9 @@
  * fragment travels with a path to the root of a hash tree over all of
  * them, by which a board sees that a fragment belongs to that root.
  *
+ * A notice of at most 64 bytes, such as "shelf door open", travels whole
+ * and without a tree: see "Notices" at the end.
+ *
  * How to use this header
  * ----------------------
  *
@@ -62,7 +65,8 @@ extern "C" {
  *   longest   L, the longest message in bytes, 0 to 16,384
  *
  * A call that takes the table refuses it with 1 if any of the four is
- * outside its limits, `sender` too where it plays no part in the work.
+ * outside its limits, `sender` too where it plays no part in the work. The
+ * calls for notices take the first three alone: `longest` plays no part.
  */
 
 #define TUMBELIKO_BOARDS_MAX    64
@@ -126,6 +130,16 @@ extern "C" {
 
 /* A buffer for a message or a delivery needs `longest` bytes. */
 
+/* The longest notice; a buffer for the delivery of one needs this, too. */
+#define TUMBELIKO_NOTICE_MAX            64
+
+/* An outgoing record of a notice. Every call that has a buffer for it needs
+ * all of this, also for a shorter notice. */
+#define TUMBELIKO_NOTICE_OUT_BYTES      67
+
+/* A notice board's state, for every n. */
+#define TUMBELIKO_NOTICE_STATE_BYTES    8352
+
 /* ====================================================================
  * Refusal numbers
  */
@@ -138,22 +152,26 @@ extern "C" {
 #define TUMBELIKO_NOT_THE_SENDER  6   /* send from a board other than the sender */
 #define TUMBELIKO_BAD_FRAGMENT    7   /* fragment longer than s_max
                                          (rebuilding: a marked one, or a marked length 0) */
-#define TUMBELIKO_LATE            8   /* board done, or a send in the output stage */
+#define TUMBELIKO_LATE            8   /* board done, or a send in the output stage
+                                         (a notice board has no such stage) */
 #define TUMBELIKO_SECOND          9   /* second send, echo or vote from that board */
 #define TUMBELIKO_TOO_FEW         10  /* fewer than k fragments marked */
 #define TUMBELIKO_NO_BLOCK        11  /* marked lengths differ, or no block agrees */
 #define TUMBELIKO_UNREADABLE      12  /* block cannot be read */
-#define TUMBELIKO_LONG_MESSAGE    13  /* message longer than L */
+#define TUMBELIKO_LONG_MESSAGE    13  /* message longer than L, notice longer than 64 bytes */
 /* 14 is a number of the drill program; no call of this header answers it. */
 #define TUMBELIKO_LONG_HASH       15  /* more than 65,536 bytes to hash */
 #define TUMBELIKO_BAD_MAILBOX     16  /* mailbox not of the form of a mailbox, or
                                          fewer answer bytes than items */
 /* Record not of the form of a record; an offset says where. */
 #define TUMBELIKO_CUT_OFF             20  /* the bytes end inside or before a field */
-#define TUMBELIKO_BAD_KIND            21  /* kind other than 1, 2 and 3 */
+#define TUMBELIKO_BAD_KIND            21  /* kind other than 1, 2 and 3; of a notice's
+                                             record: other than 4, 5 and 6 */
 #define TUMBELIKO_BAD_ROOT_COUNT      22  /* root count other than 32 */
 #define TUMBELIKO_BAD_PATH_COUNT      23  /* path count above 6, or a vote's above 0 */
 #define TUMBELIKO_BAD_FRAGMENT_COUNT  24  /* fragment count 0 or above 16,388, or a vote's above 0 */
+#define TUMBELIKO_BAD_NOTICE_COUNT    24  /* the same number of a notice's record: notice
+                                             count above 64 */
 #define TUMBELIKO_LEFT_OVER           25  /* bytes after the last field */
 
 /* Every number above is below this. */
@@ -168,7 +186,14 @@ extern "C" {
 #define TUMBELIKO_ECHO              2
 #define TUMBELIKO_VOTE              3
 
-/* Deliveries. An empty message is delivered as MESSAGE with length 0. */
+/* Kinds of a notice's record. No board takes records of both: each refuses
+ * the kinds of the other with 21. */
+#define TUMBELIKO_NOTICE_SEND       4
+#define TUMBELIKO_NOTICE_ECHO       5
+#define TUMBELIKO_NOTICE_VOTE       6
+
+/* Deliveries. An empty message is delivered as MESSAGE with length 0; so is
+ * an empty notice. No notice is delivered as VOID. */
 #define TUMBELIKO_DELIVERY_NONE     0
 #define TUMBELIKO_DELIVERY_MESSAGE  1
 #define TUMBELIKO_DELIVERY_VOID     2
@@ -191,6 +216,8 @@ extern "C" {
  *
  * The path count counts nodes of 32 bytes, and p is 32 times that count; f
  * is the fragment count. A vote has 39 bytes, the longest record 16,619.
+ * The records of notices, kinds 4 to 6, have a form of their own and are
+ * none of these: see "Notices".
  *
  * Faults of a record. The fields are read left to right, and the first
  * fault counts. A result with a field `offset` names in it the first byte
@@ -237,6 +264,12 @@ typedef struct {
 typedef struct {
     uint32_t number, offset, kind, nodes, fragment_length;
 } tumbeliko_parts;
+
+/* A refusal number and its offset, or 0 and what a notice's record is: its
+ * kind and the length of the notice. */
+typedef struct {
+    uint32_t number, offset, kind, length;
+} tumbeliko_notice;
 
 /* A refusal number and its offset, or 0 and the length of the record
  * written. */
@@ -396,7 +429,7 @@ tumbeliko_sized tumbeliko_read_block(uint32_t n, uint32_t t, uint32_t sender, ui
  * Refusals, with the offset of the field at fault; the fields left to
  * right, so that of several faults the first in the record counts:
  *   20   cut off
- *   21   kind not 1, 2 or 3
+ *   21   kind not 1, 2 or 3; a notice's record, too
  *   22   root count not 32
  *   23   path count above 6; for a vote: above 0
  *   24   fragment count 0 or above 16,388; for a vote: above 0
@@ -592,6 +625,186 @@ tumbeliko_mailed tumbeliko_mailbox(uint8_t *state, size_t state_len,
 tumbeliko_sized tumbeliko_send(uint32_t n, uint32_t t, uint32_t sender, uint32_t longest,
                                const uint8_t *message, size_t message_len, uint32_t to,
                                uint8_t *out, size_t out_len);
+
+/* ====================================================================
+ * Notices
+ *
+ * A second kind of broadcast, for notices of 0 to 64 bytes: no tree, no
+ * fragments, the notice stands whole in every record. It promises what the
+ * other does, and a notice is never delivered as void.
+ *
+ * It has its own records, boards and calls, and shares nothing with the
+ * other: a line that has both runs two boards side by side, each with its
+ * own state. A notice board takes kinds 4, 5 and 6 and refuses all others
+ * with 21; a board of the other kind takes 1, 2 and 3 and refuses these.
+ *
+ * The table is n, t and sender, within the same limits as above; a call
+ * refuses it with 1 if one of the three is outside. All boards of a notice
+ * have the same three.
+ *
+ * Its records. A kind byte and one section, the notice, after its two-byte
+ * count (high byte first). Nothing follows.
+ *
+ *   offset   bytes   field          send, echo, vote   else
+ *   0        1       kind           4, 5, 6            21
+ *   1        2       notice count   0 to 64            24
+ *   3        f       notice
+ *   3 + f    0       the end                           25
+ *
+ * f is the notice count. The shortest record has 3 bytes, the longest 67.
+ * These 5 bytes are an echo of the notice "go":
+ *
+ *   05  00 02  67 6f
+ *
+ * Faults are named as in "Faults of a record": left to right, the first
+ * counts, with the offset of its field; a field that the bytes end inside
+ * or before is 20 at that field's start, 0, 1 or 3. The count is judged as
+ * soon as it is read: `04 00 41` and no more is 24 at 1.
+ *
+ * How a notice is spread. The sender makes one record for each board
+ * (tumbeliko_notice_send). A board is started once (tumbeliko_notice_start)
+ * and takes every record that comes in through its step
+ * (tumbeliko_notice_step):
+ * - the first send from the sender is echoed whole, also by a board that
+ *   has voted, as long as it has not delivered;
+ * - the first echo and the first vote of each board count;
+ * - n - t echoes or t + 1 votes for one notice bring a vote for it;
+ * - n - t votes for one notice, once the board has voted, deliver it.
+ * Two notices are one only if lengths and bytes are the same.
+ */
+#define TUMBELIKO_RECORD_NOTICE_COUNT   1
+#define TUMBELIKO_RECORD_NOTICE         3
+
+/* ====================================================================
+ * Read notice
+ *
+ * Is this a notice's record, and where is the notice? If it is none, what
+ * is wrong, and where?
+ *
+ *   record    record_len bytes; read
+ *
+ * Refusals, with the offset of the field at fault; the fields left to
+ * right, so that of several faults the first in the record counts:
+ *   20   cut off
+ *   21   kind not 4, 5 or 6; offset 0
+ *   24   notice count above 64; offset 1
+ *   25   bytes left over
+ * Result: number 0, offset 0, kind and the length of the notice, which is
+ * at byte 3 of the record. Nothing is written.
+ */
+tumbeliko_notice tumbeliko_read_notice(const uint8_t *record, size_t record_len);
+
+/* ====================================================================
+ * Write notice
+ *
+ * Puts a notice's record together.
+ *
+ *   notice    0 to 64 bytes; read
+ *   out       TUMBELIKO_NOTICE_OUT_BYTES; written
+ *
+ * Refusals, in this order; 21 and 24 with the offset that the field would
+ * have in the record:
+ *   2    out shorter than above
+ *   21   kind not 4, 5 or 6 (256 and above too); offset 0
+ *   24   notice_len above 64; offset 1
+ * Result: number 0, offset 0 and the length of the record, notice_len + 3.
+ *
+ * Afterwards the first `length` bytes of out are the record; bytes beyond
+ * these stay.
+ */
+tumbeliko_written tumbeliko_write_notice(uint32_t kind, const uint8_t *notice, size_t notice_len,
+                                         uint8_t *out, size_t out_len);
+
+/* ====================================================================
+ * Notice start
+ *
+ * Makes a notice board's state for one notice: nothing heard, nothing put
+ * out.
+ *
+ *   own       the board's own number, 1 to n
+ *   state     TUMBELIKO_NOTICE_STATE_BYTES; written
+ *
+ * Refusals, in this order:
+ *   1    table outside its limits, or own not in 1..n
+ *   2    state shorter than above
+ * Result: 0 or the refusal number.
+ *
+ * Afterwards the first 8,352 bytes of state are those of the fresh board;
+ * bytes beyond these stay. A start over a used state is not refused. What
+ * the bytes of a state mean is the library's own: keep them untouched
+ * between steps, do not read them, and copy them only as a whole.
+ */
+uint32_t tumbeliko_notice_start(uint32_t n, uint32_t t, uint32_t sender, uint32_t own,
+                                uint8_t *state, size_t state_len);
+
+/* ====================================================================
+ * Notice step
+ *
+ * Hands one record from board `from` to the notice board whose state is
+ * lent. That the record really comes from that board is for the caller to
+ * know.
+ *
+ *   state       TUMBELIKO_NOTICE_STATE_BYTES; read and written
+ *   record      record_len bytes; read
+ *   out         TUMBELIKO_NOTICE_OUT_BYTES; written if a record is put out
+ *   delivery    TUMBELIKO_NOTICE_MAX; written if a notice is delivered
+ *
+ * out and delivery are needed in every step, also in one that puts out or
+ * delivers nothing.
+ *
+ * Refusals, in this order:
+ *   2    state below 8,352 bytes
+ *   3    state not sound (never after a start and steps alone)
+ *   2    out or delivery shorter than above
+ *   4    from not in 1..n
+ *   20, 21, 24, 25, record not of the form: the number and the offset that
+ *        tumbeliko_read_notice answers
+ *   6    a send, and from is not the sender
+ *   8    board done
+ *   9    second send; second echo or second vote from that board
+ * A refused record is not used up: the state is as it was. A send is never
+ * late before the delivery.
+ *
+ * Result: number 0, offset 0, and
+ *   record_length    length of the record put out, 0 for none; at most one
+ *                    in a step, meant for all n boards, this one too
+ *   delivery         0 none, 1 the notice; never 2
+ *   message_length   length of the notice delivered; 0 with none
+ * One step may put out a vote and deliver: at n 1 the first vote does, if
+ * it comes before the echo.
+ *
+ * Afterwards state is the board's new state (bytes beyond 8,352 stay), the
+ * first record_length bytes of out are the record, and the first
+ * message_length bytes of delivery are the notice; bytes of out and
+ * delivery beyond these stay. A board delivers once; it is done then, and
+ * refuses every later record.
+ */
+tumbeliko_stepped tumbeliko_notice_step(uint8_t *state, size_t state_len, uint32_t from,
+                                        const uint8_t *record, size_t record_len,
+                                        uint8_t *out, size_t out_len,
+                                        uint8_t *delivery, size_t delivery_len);
+
+/* ====================================================================
+ * Notice send
+ *
+ * The sender's record for board `to`. It is the same for every board.
+ *
+ *   notice    0 to 64 bytes; read
+ *   out       TUMBELIKO_NOTICE_OUT_BYTES; written
+ *
+ * Refusals, in this order:
+ *   1    table outside its limits
+ *   2    out shorter than above
+ *   4    to not in 1..n
+ *   13   notice_len above 64
+ * Result: number 0 and the length of the record, notice_len + 3.
+ *
+ * Afterwards the first `length` bytes of out are the record; bytes beyond
+ * these stay.
+ */
+tumbeliko_sized tumbeliko_notice_send(uint32_t n, uint32_t t, uint32_t sender,
+                                      const uint8_t *notice, size_t notice_len, uint32_t to,
+                                      uint8_t *out, size_t out_len);
 
 #ifdef __cplusplus
 }

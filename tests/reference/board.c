@@ -1,15 +1,13 @@
 /* Records, the sender, and a board's state, step and mailbox. */
 
 #include <string.h>
+#include "fields.h"
 #include "reference.h"
 
 enum { SEND = 1, ECHO = 2, VOTE = 3 };
 enum { NONE = 0, MESSAGE = 1, VOID = 2 };
 
 /* ---- records */
-
-/* What is wrong with a record: document 02, request 2. */
-enum { CUT_OFF = 20, NO_KIND = 21, ROOT_COUNT = 22, PATH_COUNT = 23, FRAGMENT_COUNT = 24, LEFT_OVER = 25 };
 
 static bool is_kind(uint32_t kind)
 {
@@ -26,42 +24,6 @@ static bool path_fits(uint32_t kind, size_t nodes)
 static bool fragment_fits(uint32_t kind, size_t fragment_len)
 {
     return kind == VOTE ? fragment_len == 0 : fragment_len >= 1 && fragment_len <= REF_FRAGMENT;
-}
-
-/* A record that is read from its front: where its last field began, and
- * what comes after that field. */
-typedef struct {
-    const uint8_t *start, *field, *next;
-    size_t left;
-} reading;
-
-/* Takes the next field, of so many bytes. Says no if it is not all there. */
-static bool take(reading *in, size_t bytes)
-{
-    in->field = in->next;
-    if (in->left < bytes)
-        return false;
-    in->next += bytes;
-    in->left -= bytes;
-    return true;
-}
-
-/* Takes a field that is a number, of one byte or of two. */
-static bool take_number(reading *in, size_t bytes, uint32_t *number)
-{
-    if (!take(in, bytes))
-        return false;
-    *number = 0;
-    for (size_t i = 0; i < bytes; i++)
-        *number = *number * 256 + in->field[i];
-    return true;
-}
-
-/* Is nothing left? What is left counts as a field. */
-static bool at_the_end(reading *in)
-{
-    in->field = in->next;
-    return in->left == 0;
 }
 
 /* Field by field: the first fault, or 0 and what the record has. */
@@ -98,7 +60,7 @@ ref_parts ref_read_record(const uint8_t *record, size_t record_len)
     refused.number = read_fields(&in, &parts);
     if (refused.number == 0)
         return parts;
-    refused.offset = (uint32_t)(in.field - in.start);
+    refused.offset = offset_of(&in);
     return refused;
 }
 

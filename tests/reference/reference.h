@@ -1,6 +1,6 @@
 /*
- * A second implementation of the whole of document 01 and of requests 1 and
- * 2 of document 02, in plain C, to hold the library's answers against.
+ * A second implementation of the whole of document 01 and of requests 1 to
+ * 3 of document 02, in plain C, to hold the library's answers against.
  * Nothing of it comes from the library: the field multiplies by shift and
  * add, rebuilding solves linear equations by elimination, the tree is cut by
  * recursion, a record is taken field by field from its front, a board is a C
@@ -25,6 +25,10 @@
 #define REF_STATE_HEAD  4608
 #define REF_ITEMS       255
 
+#define REF_NOTICE          64
+#define REF_NOTICE_OUT      67
+#define REF_NOTICE_STATE    8352
+
 /* Every refusal number is below this. */
 #define REF_NUMBERS     26
 
@@ -41,6 +45,7 @@ static inline bool ref_form_fault(uint32_t number)
 typedef struct { uint32_t number, length; } ref_sized;
 typedef struct { uint32_t number; uint8_t bytes[32]; } ref_digest;
 typedef struct { uint32_t number, offset, kind, nodes, fragment_length; } ref_parts;
+typedef struct { uint32_t number, offset, kind, length; } ref_notice;
 typedef struct { uint32_t number, offset, length; } ref_written;
 typedef struct { uint32_t number, offset, record_length, delivery, message_length; } ref_stepped;
 typedef struct { uint32_t number, echo_length, vote_length, delivery, message_length; } ref_mailed;
@@ -123,6 +128,43 @@ bool ref_sound(const ref_board *board);
  * some board, sound or not. With a table within limits, s_max bytes of each
  * fragment are read as far as state_len goes; those beyond are 0. */
 void ref_decode(const uint8_t *state, size_t state_len, ref_board *board);
+
+/* notice.c: notices */
+
+ref_notice ref_read_notice(const uint8_t *record, size_t record_len);
+
+ref_written ref_write_notice(uint32_t kind, const uint8_t *notice, size_t notice_len, uint8_t *out, size_t out_len);
+
+ref_sized ref_notice_send(uint32_t n, uint32_t t, uint32_t sender, const uint8_t *notice, size_t notice_len,
+                          uint32_t to, uint8_t *out, size_t out_len);
+
+/* What was heard from a board, or not heard: a length and so many bytes. A
+ * damaged state may say a length for which there is no room. */
+typedef struct {
+    bool heard;
+    uint32_t length;
+    uint8_t bytes[REF_NOTICE];
+} ref_word;
+
+/* A notice board's state. Index i is board i + 1. */
+typedef struct {
+    ref_table table;                    /* with 0 for L */
+    uint32_t own;
+    bool acquired, voted, done;
+    ref_word echo[REF_BOARDS], vote[REF_BOARDS];
+} ref_notice_board;
+
+uint32_t ref_notice_start(uint32_t n, uint32_t t, uint32_t sender, uint32_t own, ref_notice_board *board, size_t state_len);
+
+ref_stepped ref_notice_step(ref_notice_board *board, size_t state_len, uint32_t from,
+                            const uint8_t *record, size_t record_len, uint8_t *out, size_t out_len,
+                            uint8_t *delivery, size_t delivery_len);
+
+bool ref_notice_sound(const ref_notice_board *board);
+
+/* The board that 8,352 bytes of the library's stand for: all are some board,
+ * sound or not. */
+void ref_notice_decode(const uint8_t *state, ref_notice_board *board);
 
 /* drill.c: what the drill prints for this input, into `text`; its length */
 

@@ -1,6 +1,6 @@
 /*
  * The reference itself, tried on the sentences of document 01 and of requests
- * 1 and 2 of document 02: what the library is held against must be right
+ * 1 to 3 of document 02: what the library is held against must be right
  * first.
  */
 
@@ -763,6 +763,311 @@ static void a_state_s_bytes_are_decoded_field_by_field(void)
     }
 }
 
+/* ---- notices */
+
+enum { NOTICE_SEND = 4, NOTICE_ECHO = 5, NOTICE_VOTE = 6 };
+
+static ref_notice_board noticed[MOST], noticed_before;
+
+/* The first bytes of some records, written down by hand, the others 'x'; so
+ * many bytes of it; and what the reader says. */
+static void notices_read_by_hand(void)
+{
+    static const struct {
+        uint8_t bytes[3];
+        size_t len;
+        uint32_t number, offset, kind, length;
+    } cases[] = {
+        { { 4, 0, 0 }, 3, 0, 0, 4, 0 }, { { 5, 0, 1 }, 4, 0, 0, 5, 1 }, { { 6, 0, 64 }, 67, 0, 0, 6, 64 },
+        { { 4, 0, 63 }, 66, 0, 0, 4, 63 },
+
+        /* cut off: before the kind, before or inside the count, before or inside the notice */
+        { { 4, 0, 0 }, 0, 20, 0, 0, 0 }, { { 4, 0, 0 }, 1, 20, 1, 0, 0 }, { { 5, 0, 9 }, 2, 20, 1, 0, 0 },
+        { { 5, 255, 9 }, 2, 20, 1, 0, 0 }, { { 6, 0, 9 }, 3, 20, 3, 0, 0 }, { { 6, 0, 9 }, 11, 20, 3, 0, 0 },
+        { { 6, 0, 64 }, 66, 20, 3, 0, 0 },
+
+        /* the kind, whatever follows: the kinds of the other broadcast, too */
+        { { 0, 0, 0 }, 3, 21, 0, 0, 0 }, { { 1, 0, 0 }, 3, 21, 0, 0, 0 }, { { 2, 0, 65 }, 3, 21, 0, 0, 0 },
+        { { 3, 0, 0 }, 1, 21, 0, 0, 0 }, { { 7, 0, 0 }, 3, 21, 0, 0, 0 }, { { 255, 255, 255 }, 2, 21, 0, 0, 0 },
+
+        /* the count, before its section: 04 0041 and no more */
+        { { 4, 0, 65 }, 3, 24, 1, 0, 0 }, { { 4, 0, 65 }, 68, 24, 1, 0, 0 }, { { 5, 1, 0 }, 3, 24, 1, 0, 0 },
+        { { 6, 1, 5 }, 8, 24, 1, 0, 0 }, { { 6, 255, 255 }, 67, 24, 1, 0, 0 }, { { 6, 64, 0 }, 3, 24, 1, 0, 0 },
+
+        /* bytes left over: the first of them */
+        { { 4, 0, 0 }, 4, 25, 3, 0, 0 }, { { 5, 0, 2 }, 6, 25, 5, 0, 0 }, { { 6, 0, 64 }, 68, 25, 67, 0, 0 },
+        { { 6, 0, 64 }, 400, 25, 67, 0, 0 },
+    };
+
+    for (size_t c = 0; c < sizeof cases / sizeof *cases; c++) {
+        ref_notice read;
+
+        memset(record, 'x', 400);
+        memcpy(record, cases[c].bytes, 3);
+        read = ref_read_notice(record, cases[c].len);
+        CHECK(read.number == cases[c].number && read.offset == cases[c].offset);
+        CHECK(read.kind == cases[c].kind && read.length == cases[c].length);
+    }
+}
+
+/* Each fault of the writer and of the sender alone, and with one that comes later. */
+static void notices_written_by_hand(void)
+{
+    static const struct {
+        uint32_t kind;
+        size_t notice, out;
+        uint32_t number, offset;
+    } cases[] = {
+        { 4, 0, 67, 0, 0 }, { 5, 64, 67, 0, 0 }, { 6, 1, 68, 0, 0 },
+        { 4, 0, 66, 2, 0 }, { 3, 65, 66, 2, 0 }, { 4, 65, 0, 2, 0 },
+        { 3, 0, 67, 21, 0 }, { 7, 65, 67, 21, 0 }, { 256 + 4, 1, 67, 21, 0 }, { 0, 0, 67, 21, 0 },
+        { 4, 65, 67, 24, 1 }, { 6, 256, 67, 24, 1 }, { 5, 65536, 67, 24, 1 },
+    };
+    static const struct {
+        uint32_t n, t, sender, to;
+        size_t notice, out;
+        uint32_t number;
+    } sends[] = {
+        { 4, 1, 2, 4, 64, 67, 0 }, { 1, 0, 1, 1, 0, 67, 0 }, { 64, 21, 64, 64, 5, 67, 0 },
+        { 3, 1, 1, 1, 5, 67, 1 }, { 0, 0, 1, 1, 5, 67, 1 }, { 65, 1, 1, 1, 5, 67, 1 }, { 4, 1, 5, 9, 65, 0, 1 },
+        { 4, 1, 0, 1, 5, 67, 1 }, { 4, 1431655766, 1, 1, 5, 67, 1 },
+        { 4, 1, 2, 9, 65, 66, 2 }, { 4, 1, 2, 0, 65, 67, 4 }, { 4, 1, 2, 5, 0, 67, 4 }, { 4, 1, 2, 1, 65, 67, 13 },
+    };
+
+    for (size_t i = 0; i < sizeof bytes; i++)
+        bytes[i] = (uint8_t)(i + 7);
+    for (size_t c = 0; c < sizeof cases / sizeof *cases; c++) {
+        ref_written got;
+
+        memset(out, 77, 100);
+        got = ref_write_notice(cases[c].kind, bytes, cases[c].notice, out, cases[c].out);
+        CHECK(got.number == cases[c].number && got.offset == cases[c].offset);
+        CHECK(got.length == (got.number == 0 ? cases[c].notice + 3 : 0) && out[got.length] == 77);
+        if (got.number == 0)
+            CHECK(out[0] == cases[c].kind && out[1] == 0 && out[2] == cases[c].notice
+                  && memcmp(out + 3, bytes, cases[c].notice) == 0);
+    }
+    for (size_t c = 0; c < sizeof sends / sizeof *sends; c++) {
+        ref_sized got;
+
+        memset(out, 77, 100);
+        got = ref_notice_send(sends[c].n, sends[c].t, sends[c].sender, bytes, sends[c].notice, sends[c].to,
+                              out, sends[c].out);
+        CHECK(got.number == sends[c].number);
+        CHECK(got.length == (got.number == 0 ? sends[c].notice + 3 : 0) && out[got.length] == 77);
+        CHECK(got.number != 0 || (out[0] == 4 && memcmp(out + 3, bytes, sends[c].notice) == 0));
+    }
+}
+
+/* A record of that kind with a short text, from a board to one that the
+ * reference keeps. What it puts out is left in `out`. */
+static ref_stepped notice_step(ref_notice_board *board, uint32_t from, uint32_t kind, const char *text)
+{
+    uint8_t bytes_of[REF_NOTICE_OUT];
+    size_t len = ref_write_notice(kind, (const uint8_t *)text, strlen(text), bytes_of, sizeof bytes_of).length;
+
+    return ref_notice_step(board, REF_NOTICE_STATE, from, bytes_of, len, out, REF_NOTICE_OUT, delivery, REF_NOTICE);
+}
+
+/* number, length of the record put out with its kind, delivery and its length */
+static bool did_so(ref_stepped did, uint32_t number, uint32_t record_length, uint32_t kind, uint32_t delivered, uint32_t length)
+{
+    return did.number == number && did.offset == 0 && did.record_length == record_length && did.delivery == delivered
+        && did.message_length == length && (record_length == 0 || out[0] == kind);
+}
+
+/* n 1: three records, or a vote first, which brings a vote and the delivery at once. */
+static void one_board_s_notices_worked_out_by_hand(void)
+{
+    ref_notice_board *b = &noticed[0];
+
+    CHECK(ref_notice_start(1, 0, 1, 1, b, REF_NOTICE_STATE) == 0);
+    CHECK(did_so(notice_step(b, 1, NOTICE_SEND, "door"), 0, 7, NOTICE_ECHO, NONE, 0) && memcmp(out + 3, "door", 4) == 0);
+    CHECK(did_so(notice_step(b, 1, NOTICE_SEND, "door"), 9, 0, 0, NONE, 0));
+    CHECK(did_so(notice_step(b, 1, NOTICE_ECHO, "door"), 0, 7, NOTICE_VOTE, NONE, 0) && memcmp(out + 3, "door", 4) == 0);
+    CHECK(did_so(notice_step(b, 1, NOTICE_ECHO, "door"), 9, 0, 0, NONE, 0));
+    CHECK(did_so(notice_step(b, 1, NOTICE_VOTE, "door"), 0, 0, 0, MESSAGE, 4) && memcmp(delivery, "door", 4) == 0);
+    CHECK(did_so(notice_step(b, 1, NOTICE_VOTE, "door"), 8, 0, 0, NONE, 0));
+    CHECK(did_so(notice_step(b, 1, NOTICE_SEND, "door"), 8, 0, 0, NONE, 0));
+    CHECK(ref_notice_start(1, 0, 1, 1, b, REF_NOTICE_STATE) == 0);
+    CHECK(did_so(notice_step(b, 1, NOTICE_VOTE, ""), 0, 3, NOTICE_VOTE, MESSAGE, 0));
+    CHECK(b->voted && b->done && !b->acquired);
+    CHECK(did_so(notice_step(b, 1, NOTICE_SEND, ""), 8, 0, 0, NONE, 0));
+}
+
+/* n 4, t 1, the sender is board 2: three echoes or two votes bring a vote,
+ * three votes deliver, and a send is echoed until then. */
+static void four_boards_notices_worked_out_by_hand(void)
+{
+    ref_notice_board *b = &noticed[0];
+
+    CHECK(ref_notice_start(4, 1, 2, 1, b, REF_NOTICE_STATE) == 0);
+    CHECK(did_so(notice_step(b, 1, NOTICE_ECHO, "ab"), 0, 0, 0, NONE, 0));
+    CHECK(did_so(notice_step(b, 2, NOTICE_ECHO, "a"), 0, 0, 0, NONE, 0));       /* begins as the first, and is another */
+    CHECK(did_so(notice_step(b, 3, NOTICE_ECHO, "ab"), 0, 0, 0, NONE, 0));
+    CHECK(did_so(notice_step(b, 2, NOTICE_ECHO, "ab"), 9, 0, 0, NONE, 0));      /* one echo of a board */
+    CHECK(did_so(notice_step(b, 4, NOTICE_VOTE, "ab"), 0, 0, 0, NONE, 0));      /* an echo is no vote */
+    CHECK(did_so(notice_step(b, 5, NOTICE_ECHO, "ab"), 4, 0, 0, NONE, 0));
+    CHECK(did_so(notice_step(b, 0, NOTICE_ECHO, "ab"), 4, 0, 0, NONE, 0));
+    CHECK(did_so(notice_step(b, 4, NOTICE_ECHO, "ab"), 0, 5, NOTICE_VOTE, NONE, 0) && memcmp(out + 3, "ab", 2) == 0);
+    CHECK(did_so(notice_step(b, 3, NOTICE_SEND, "a"), 6, 0, 0, NONE, 0));
+    CHECK(did_so(notice_step(b, 2, NOTICE_SEND, "a"), 0, 4, NOTICE_ECHO, NONE, 0));     /* voted, and echoed all the same */
+    CHECK(did_so(notice_step(b, 2, NOTICE_SEND, "a"), 9, 0, 0, NONE, 0));
+    CHECK(did_so(notice_step(b, 3, NOTICE_VOTE, "a"), 0, 0, 0, NONE, 0));
+    CHECK(did_so(notice_step(b, 2, NOTICE_VOTE, "a"), 0, 0, 0, NONE, 0));
+    CHECK(did_so(notice_step(b, 1, NOTICE_VOTE, "a"), 0, 0, 0, MESSAGE, 1) && delivery[0] == 'a');  /* not what it voted for */
+    CHECK(did_so(notice_step(b, 3, NOTICE_SEND, "a"), 6, 0, 0, NONE, 0));
+    CHECK(did_so(notice_step(b, 3, NOTICE_ECHO, "a"), 8, 0, 0, NONE, 0));
+    CHECK(ref_notice_start(4, 1, 2, 1, b, REF_NOTICE_STATE) == 0);
+    CHECK(did_so(notice_step(b, 4, NOTICE_VOTE, ""), 0, 0, 0, NONE, 0));
+    CHECK(did_so(notice_step(b, 3, NOTICE_VOTE, ""), 0, 3, NOTICE_VOTE, NONE, 0));
+    CHECK(did_so(notice_step(b, 1, NOTICE_VOTE, ""), 0, 0, 0, MESSAGE, 0));
+}
+
+/* Every combination of the faults of a step that can stand together. */
+static void a_notice_step_looks_in_the_order_3_2_4_form_6_8_9(void)
+{
+    for (unsigned faults = 0; faults < 256; faults++) {
+        static const uint32_t order[] = { 2, 3, 2, 4, 25, 6, 8, 9 };
+        ref_notice_board *b = &noticed[0];
+        size_t state = REF_NOTICE_STATE, out_len = REF_NOTICE_OUT, delivery_len = REF_NOTICE, len = 5;
+        uint32_t from = 2, number = 0;
+        ref_stepped did;
+
+        CHECK(ref_notice_start(4, 1, 2, 1, b, state) == 0);
+        memcpy(record, "\4\0\2go!", 6);
+        if (faults & 1)
+            state--;
+        if (faults & 2)
+            b->vote[3].length = 1;
+        if (faults & 4)
+            faults & 8 ? out_len-- : delivery_len--;
+        if (faults & 8)
+            from = 5;
+        if (faults & 16)
+            len++;
+        if (faults & 32 && !(faults & 8))
+            from = 3;
+        if (faults & 64)
+            b->voted = b->done = true;
+        if (faults & 128)
+            b->acquired = true;
+        for (int f = 7; f >= 0; f--)
+            if (faults >> f & 1)
+                number = order[f];
+        noticed_before = *b;
+        did = ref_notice_step(b, state, from, record, len, out, out_len, delivery, delivery_len);
+        CHECK(did.number == number && did.offset == (number == 25 ? 5 : 0));
+        if (number != 0) {
+            CHECK(did.record_length == 0 && did.delivery == NONE && did.message_length == 0);
+            CHECK(memcmp(&noticed_before, b, sizeof noticed_before) == 0);
+        }
+    }
+}
+
+/* One clause broken at a time, in a state of n 4, t 1; and what is free. */
+static void notice_states_worked_out_by_hand(void)
+{
+    static const ref_word said = { true, 2, "ab" }, other = { true, 1, "a" };
+    ref_notice_board *b = &noticed[0], fresh;
+
+    CHECK(ref_notice_start(4, 1, 2, 4, &fresh, REF_NOTICE_STATE) == 0 && ref_notice_sound(&fresh));
+#define SOUND(sound, change) do { *b = fresh; change; CHECK(ref_notice_sound(b) == (sound)); } while (0)
+    SOUND(false, b->table.n = 0);
+    SOUND(false, b->table.n = 3);
+    SOUND(false, b->table.n = 65);
+    SOUND(false, b->table.t = 2);
+    SOUND(true, b->table.t = 0);
+    SOUND(false, b->table.sender = 0);
+    SOUND(false, b->table.sender = 5);
+    SOUND(false, b->own = 0);
+    SOUND(false, b->own = 5);
+    SOUND(true, b->acquired = true);
+    SOUND(true, b->voted = true);
+    SOUND(false, b->done = true);
+    SOUND(true, b->done = b->voted = true);
+    SOUND(false, b->echo[4].heard = true);
+    SOUND(false, b->vote[63].heard = true);
+    SOUND(true, b->echo[3].heard = true);               /* the empty notice */
+    SOUND(true, (b->vote[3].heard = true, b->vote[3].length = 64));
+    SOUND(false, (b->vote[3].heard = true, b->vote[3].length = 65));
+    SOUND(false, (b->echo[0].heard = true, b->echo[0].length = 255));
+    SOUND(false, b->echo[0].length = 1);
+    SOUND(false, b->vote[63].length = 1);
+    SOUND(true, b->vote[63].bytes[5] = 1);
+    SOUND(true, b->echo[0] = b->echo[1] = said);        /* fewer than n - t echoes */
+    SOUND(false, b->echo[0] = b->echo[1] = b->echo[3] = said);
+    SOUND(true, (b->echo[0] = b->echo[1] = b->echo[3] = said, b->voted = true));
+    SOUND(true, (b->echo[0] = b->echo[1] = said, b->echo[2] = b->echo[3] = other));
+    SOUND(true, (b->vote[0] = said, b->vote[2] = other));       /* fewer than t + 1 votes */
+    SOUND(false, (b->vote[0] = said, b->vote[2] = other, b->vote[3] = said));
+    SOUND(true, (b->vote[0] = said, b->vote[2] = other, b->vote[3] = said, b->voted = true));
+    SOUND(false, (b->vote[0] = b->vote[2] = b->vote[3] = said, b->voted = true));
+    SOUND(true, (b->vote[0] = b->vote[2] = b->vote[3] = said, b->voted = b->done = true));
+    SOUND(true, (b->vote[0] = b->vote[2] = said, b->vote[1] = b->vote[3] = other, b->voted = true));
+#undef SOUND
+}
+
+/* Bytes put down one by one, each place with a number of its own. */
+static void a_notice_state_s_bytes_are_decoded_field_by_field(void)
+{
+    static uint8_t state[REF_NOTICE_STATE];
+    ref_notice_board *b = &noticed[0];
+
+    for (uint32_t turn = 0; turn < 64; turn++) {
+        memset(state, 0, sizeof state);
+        memcpy(state, (const uint8_t[]){ 11, 12, 13, 14, 0, 200, 0 }, 7);
+        state[14 - turn / 8] = (uint8_t)(1 << turn % 8);        /* board turn + 1 alone */
+        state[22 - turn / 8] = (uint8_t)~(1 << turn % 8);
+        state[32 + 65 * turn] = 33;
+        state[32 + 65 * turn + 1] = 34;
+        state[32 + 65 * turn + 64] = 35;
+        state[4192 + 65 * turn] = 255;
+        state[4192 + 65 * turn + 1] = 36;
+        state[4192 + 65 * turn + 64] = 37;
+        ref_notice_decode(state, b);
+        CHECK(b->table.n == 11 && b->table.t == 12 && b->table.sender == 13 && b->own == 14);
+        CHECK(!b->acquired && b->voted && !b->done);
+        for (uint32_t i = 0; i < 64; i++) {
+            bool here = i == turn;
+
+            CHECK(b->echo[i].heard == here && b->echo[i].length == (here ? 33 : 0));
+            CHECK(b->echo[i].bytes[0] == (here ? 34 : 0) && b->echo[i].bytes[63] == (here ? 35 : 0));
+            CHECK(b->vote[i].heard == (i / 8 == turn / 8 && !here) && b->vote[i].length == (here ? 255 : 0));
+            CHECK(b->vote[i].bytes[0] == (here ? 36 : 0) && b->vote[i].bytes[63] == (here ? 37 : 0));
+        }
+    }
+}
+
+/* All records of a rule-keeping sender's notice, in any order: all deliver it. */
+static void a_rule_keeping_sender_s_notice_is_delivered_by_all(void)
+{
+    static struct { uint32_t from, to, kind; } post[MOST + 2 * MOST * MOST];
+
+    for (int run = 0; run < 300; run++) {
+        uint32_t n = 1 + random_below(MOST), t = random_below((n - 1) / 3 + 1), sender = 1 + random_below(n), delivered = 0;
+        size_t posted = 0;
+
+        for (uint32_t own = 1; own <= n; own++) {
+            CHECK(ref_notice_start(n, t, sender, own, &noticed[own - 1], REF_NOTICE_STATE) == 0);
+            post[posted].from = sender, post[posted].to = own, post[posted++].kind = NOTICE_SEND;
+        }
+        for (size_t taken = 0; taken < posted; taken++) {
+            size_t pick = taken + random_below((uint32_t)(posted - taken));
+            uint32_t from = post[pick].from, own = post[pick].to, kind = post[pick].kind;
+            ref_stepped did = notice_step(&noticed[own - 1], from, kind, "shelf door open");
+
+            post[pick] = post[taken];
+            CHECK(did.number == 0 || did.number == 8);
+            CHECK(ref_notice_sound(&noticed[own - 1]));
+            delivered += did.delivery == MESSAGE && did.message_length == 15 && memcmp(delivery, "shelf door open", 15) == 0;
+            for (uint32_t to = 1; did.record_length > 0 && to <= n; to++)
+                post[posted].from = own, post[posted].to = to, post[posted++].kind = out[0];
+        }
+        CHECK(delivered == n);
+    }
+}
+
 static const test hand_tests[] = {
     TEST(products_worked_out_by_hand),
     TEST(quorums_worked_out_by_hand),
@@ -793,6 +1098,17 @@ static const test mailbox_tests[] = {
     TEST(a_mailbox_is_looked_at_in_the_order_3_2_16),
 };
 
+static const test notice_tests[] = {
+    TEST(notices_read_by_hand),
+    TEST(notices_written_by_hand),
+    TEST(one_board_s_notices_worked_out_by_hand),
+    TEST(four_boards_notices_worked_out_by_hand),
+    TEST(a_notice_step_looks_in_the_order_3_2_4_form_6_8_9),
+    TEST(notice_states_worked_out_by_hand),
+    TEST(a_notice_state_s_bytes_are_decoded_field_by_field),
+    TEST(a_rule_keeping_sender_s_notice_is_delivered_by_all),
+};
+
 static const test run_tests[] = {
     TEST(a_rule_keeping_sender_s_message_is_delivered_by_all),
     TEST(rule_breaking_boards_do_not_keep_the_others_apart),
@@ -802,7 +1118,7 @@ int main(int argc, char **argv)
 {
     static const group groups[] = {
         GROUP("by hand", hand_tests), GROUP("records", record_tests), GROUP("boards", board_tests),
-        GROUP("mailboxes", mailbox_tests), GROUP("runs", run_tests),
+        GROUP("mailboxes", mailbox_tests), GROUP("notices", notice_tests), GROUP("runs", run_tests),
     };
 
     return run_groups(groups, sizeof groups / sizeof *groups, argc, argv);
