@@ -28,12 +28,12 @@ HARNESS   = tests/harness.c
 TREES     = tests/trees.c
 STATES    = tests/states.c $(TREES)
 MAIL      = tests/mail.c
+NOTICES   = tests/notices.c
 LINE      = $(wildcard examples/line/*.c examples/line/*.h)
 PROGRAM   = $(wildcard tools/*.c tools/*.h)
 FUZZ      = fuzz/fuzz.c fuzz/drawn.c fuzz/ground.c fuzz/board.c fuzz/drill.c
 HEADERS   = include/tumbeliko.h include/drill.h tests/harness.h tests/trees.h tests/states.h tests/mail.h tests/reference/reference.h \
-            tests/reference/fields.h \
-            bench/plain.h bench/clock.h
+            tests/reference/fields.h tests/notices.h bench/plain.h bench/clock.h
 BUILD     = $(CC) $(CFLAGS) $(CPPFLAGS) -Iinclude -Itests $(LINK)
 
 # Is there a header $(1), and does it link with $(2)?
@@ -44,7 +44,7 @@ KNOWN = $(if $(call have,openssl/sha.h,-lcrypto),-DHAVE_OPENSSL -lcrypto) \
         $(if $(call have,isa-l/erasure_code.h,-lisal),-DHAVE_ISAL -lisal)
 
 .PHONY: help test statement lib demo line-demo drill program install bench growth stack soak fuzz house clean tools
-.PHONY: statement-test library-test header-test reference-test vectors-test ground-test board-test mailbox-test line-test drill-test
+.PHONY: statement-test library-test header-test reference-test vectors-test ground-test board-test mailbox-test notice-test line-test drill-test
 .PHONY: program-test examples-test stack-test
 
 help:
@@ -67,7 +67,7 @@ help:
 	@echo "make clean    remove build/ and target/"
 	@echo
 	@echo "one part of the tests: statement-test library-test header-test reference-test vectors-test ground-test"
-	@echo "                       board-test mailbox-test line-test drill-test program-test examples-test stack-test"
+	@echo "                       board-test mailbox-test notice-test line-test drill-test program-test examples-test stack-test"
 	@echo "SEED=number   other random bytes for the tests in C"
 	@echo "RUNS=number   how many runs of lines; 20,000 if not given"
 	@echo "LIB=path      another archive"
@@ -118,6 +118,10 @@ build/board-test: tests/board.c $(STATES) $(HARNESS) $(REFERENCE) $(HEADERS) $(L
 build/mailbox-test: tests/mailbox.c $(MAIL) $(STATES) $(HARNESS) $(REFERENCE) $(HEADERS) $(LIB) | build $(TOOLS)
 	@echo "building $@ with $(LIB)"
 	@$(BUILD) tests/mailbox.c $(MAIL) $(STATES) $(HARNESS) $(REFERENCE) $(LIB) $(LDFLAGS) -o $@
+
+build/notice-test: tests/notice.c $(NOTICES) $(HARNESS) $(REFERENCE) $(HEADERS) $(LIB) | build $(TOOLS)
+	@echo "building $@ with $(LIB)"
+	@$(BUILD) tests/notice.c $(NOTICES) $(HARNESS) $(REFERENCE) $(LIB) $(LDFLAGS) -o $@
 
 build/line-test: tests/line.c $(MAIL) $(TREES) $(HARNESS) $(REFERENCE) $(HEADERS) $(LIB) | build $(TOOLS)
 	@echo "building $@ with $(LIB)"
@@ -224,6 +228,9 @@ board-test: build/board-test
 
 mailbox-test: build/mailbox-test
 	@$(RUN) build/mailbox-test $(SEED)
+
+notice-test: build/notice-test
+	@$(RUN) build/notice-test $(SEED)
 
 line-test: build/line-test
 	@$(RUN) build/line-test $(or $(RUNS),20000) $(SEED)

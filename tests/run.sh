@@ -52,6 +52,7 @@ part vectors make --no-print-directory vectors-test
 part ground make --no-print-directory ground-test
 part board make --no-print-directory board-test
 part mailbox make --no-print-directory mailbox-test
+part notice make --no-print-directory notice-test
 part line make --no-print-directory line-test
 part drill make --no-print-directory drill-test
 part program make --no-print-directory program-test
