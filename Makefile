@@ -29,11 +29,12 @@ TREES     = tests/trees.c
 STATES    = tests/states.c $(TREES)
 MAIL      = tests/mail.c
 NOTICES   = tests/notices.c
+LINES     = tests/lines.c
 LINE      = $(wildcard examples/line/*.c examples/line/*.h)
 PROGRAM   = $(wildcard tools/*.c tools/*.h)
 FUZZ      = fuzz/fuzz.c fuzz/drawn.c fuzz/ground.c fuzz/board.c fuzz/drill.c
 HEADERS   = include/tumbeliko.h include/drill.h tests/harness.h tests/trees.h tests/states.h tests/mail.h tests/reference/reference.h \
-            tests/reference/fields.h tests/notices.h bench/plain.h bench/clock.h
+            tests/reference/fields.h tests/notices.h tests/lines.h bench/plain.h bench/clock.h
 BUILD     = $(CC) $(CFLAGS) $(CPPFLAGS) -Iinclude -Itests $(LINK)
 
 # Is there a header $(1), and does it link with $(2)?
@@ -44,7 +45,7 @@ KNOWN = $(if $(call have,openssl/sha.h,-lcrypto),-DHAVE_OPENSSL -lcrypto) \
         $(if $(call have,isa-l/erasure_code.h,-lisal),-DHAVE_ISAL -lisal)
 
 .PHONY: help test statement lib demo line-demo drill program install bench growth stack soak fuzz house clean tools
-.PHONY: statement-test library-test header-test reference-test vectors-test ground-test board-test mailbox-test notice-test line-test drill-test
+.PHONY: statement-test library-test header-test reference-test vectors-test ground-test board-test mailbox-test notice-test line-test notice-line-test drill-test
 .PHONY: program-test examples-test stack-test
 
 help:
@@ -61,15 +62,16 @@ help:
 	@echo "make bench    times beside plain C and known libraries, and the stack of each call"
 	@echo "make growth   how the cost of a call grows with L and n: tables, and the plot docs/growth.svg"
 	@echo "make stack    the stack of each call alone, beside its limit"
-	@echo "make soak     whole lines of boards for MINUTES=10, each time with a new seed"
+	@echo "make soak     whole lines of boards, of fragments and of notices, for MINUTES=10, each time with a new seed"
 	@echo "make fuzz     the calls on bytes that a coverage-guided fuzzer finds, for MINUTES=10"
 	@echo "make house    draw anew what stands on what among the crates, docs/house.svg"
 	@echo "make clean    remove build/ and target/"
 	@echo
 	@echo "one part of the tests: statement-test library-test header-test reference-test vectors-test ground-test"
-	@echo "                       board-test mailbox-test notice-test line-test drill-test program-test examples-test stack-test"
+	@echo "                       board-test mailbox-test notice-test line-test notice-line-test drill-test program-test"
+	@echo "                       examples-test stack-test"
 	@echo "SEED=number   other random bytes for the tests in C"
-	@echo "RUNS=number   how many runs of lines; 20,000 if not given"
+	@echo "RUNS=number   how many runs of lines of each kind; 20,000 if not given"
 	@echo "LIB=path      another archive"
 
 test:
@@ -123,9 +125,13 @@ build/notice-test: tests/notice.c $(NOTICES) $(HARNESS) $(REFERENCE) $(HEADERS) 
 	@echo "building $@ with $(LIB)"
 	@$(BUILD) tests/notice.c $(NOTICES) $(HARNESS) $(REFERENCE) $(LIB) $(LDFLAGS) -o $@
 
-build/line-test: tests/line.c $(MAIL) $(TREES) $(HARNESS) $(REFERENCE) $(HEADERS) $(LIB) | build $(TOOLS)
+build/line-test: tests/line.c $(LINES) $(MAIL) $(TREES) $(HARNESS) $(REFERENCE) $(HEADERS) $(LIB) | build $(TOOLS)
 	@echo "building $@ with $(LIB)"
-	@$(BUILD) tests/line.c $(MAIL) $(TREES) $(HARNESS) $(REFERENCE) $(LIB) $(LDFLAGS) -o $@
+	@$(BUILD) tests/line.c $(LINES) $(MAIL) $(TREES) $(HARNESS) $(REFERENCE) $(LIB) $(LDFLAGS) -o $@
+
+build/notice-line-test: tests/notice-line.c $(LINES) $(HARNESS) $(REFERENCE) $(HEADERS) $(LIB) | build $(TOOLS)
+	@echo "building $@ with $(LIB)"
+	@$(BUILD) tests/notice-line.c $(LINES) $(HARNESS) $(REFERENCE) $(LIB) $(LDFLAGS) -o $@
 
 build/drill-test: tests/drill.c $(TREES) $(HARNESS) $(REFERENCE) $(HEADERS) $(DRILL) | build $(TOOLS)
 	@echo "building $@ with $(DRILL)"
@@ -235,6 +241,9 @@ notice-test: build/notice-test
 line-test: build/line-test
 	@$(RUN) build/line-test $(or $(RUNS),20000) $(SEED)
 
+notice-line-test: build/notice-line-test
+	@$(RUN) build/notice-line-test $(or $(RUNS),20000) $(SEED)
+
 drill-test: build/drill-test build/drill
 	@printf '1 0 1 16\n0\n1 41\n3\ns 1 1\ne 1 1\nv 1 1\n' | $(RUN) build/drill > build/drill.log
 	@printf 'step kind from to answer act outcome\n1 s 1 1 0 e -\n2 e 1 1 0 v -\n3 v 1 1 0 - m41\n' | cmp - build/drill.log
@@ -248,7 +257,7 @@ examples-test: build/demo build/seven build/line-demo
 	@RUN="$(RUN)" sh tests/examples.sh
 
 # A new seed each time; stops at the first failure, and says which seed it was.
-soak: build/line-test
+soak: build/line-test build/notice-line-test
 	@RUN="$(RUN)" sh tests/soak.sh $(MINUTES) $(or $(RUNS),20000) $(SEED)
 
 # Outside the gate. Found inputs stay in build/fuzz/corpus.

@@ -1,8 +1,9 @@
 /*
  * The speed of each call, beside plain C and known libraries on the same
- * input in the same run, and of the calls of records and boards beside the
- * reference of the tests; of a mailbox beside single steps, too. Prints Markdown tables; each time is the best of
- * many. Answers are compared before anything is timed.
+ * input in the same run, and of the calls of records, boards and notices
+ * beside the reference of the tests; of a mailbox beside single steps, too.
+ * Prints Markdown tables; each time is the best of many. Answers are compared
+ * before anything is timed.
  *
  * Libraries are used as far as they were found: HAVE_OPENSSL, HAVE_BEARSSL
  * and HAVE_ISAL are set by the Makefile.
@@ -771,6 +772,196 @@ static void mailbox_rows(void)
     mailbox_row("echo and vote of each board, 60 B, delivering", "-");
 }
 
+/* ---- notices, beside the reference */
+
+#define NOTICE TUMBELIKO_NOTICE_MAX
+
+static uint8_t (*notice_states)[TUMBELIKO_NOTICE_STATE_BYTES], notice_base[TUMBELIKO_NOTICE_STATE_BYTES];
+static ref_notice_board *notice_boards, other_notice_base;
+
+static void our_notice_reader(void)     { kept = tumbeliko_read_notice(record, record_len).length; }
+static void other_notice_reader(void)   { kept = ref_read_notice(record, record_len).length; }
+static void our_notice_writer(void)     { kept = tumbeliko_write_notice(5, message, NOTICE, out, sizeof out).length; }
+static void other_notice_writer(void)   { kept = ref_write_notice(5, message, NOTICE, other_out, sizeof other_out).length; }
+
+static void our_notice_send(void)
+{
+    kept = tumbeliko_notice_send(n, t, 1, message, NOTICE, n, out, sizeof out).length;
+}
+
+static void other_notice_send(void)
+{
+    kept = ref_notice_send(n, t, 1, message, NOTICE, n, other_out, sizeof other_out).length;
+}
+
+static void our_notice_start(void)
+{
+    kept = tumbeliko_notice_start(n, t, 1, 1, notice_states[0], sizeof *notice_states);
+}
+
+static void other_notice_start(void)
+{
+    kept = ref_notice_start(n, t, 1, 1, &notice_boards[0], sizeof *notice_states);
+}
+
+/* One step of board i + 1 by each. */
+static tumbeliko_stepped our_notice_step_of(uint32_t i, uint32_t by, const uint8_t *bytes, size_t len)
+{
+    return tumbeliko_notice_step(notice_states[i], sizeof *notice_states, by, bytes, len, out, sizeof out, back, sizeof back);
+}
+
+static ref_stepped other_notice_step_of(uint32_t i, uint32_t by, const uint8_t *bytes, size_t len)
+{
+    return ref_notice_step(&notice_boards[i], sizeof *notice_states, by, bytes, len, other_out, sizeof other_out,
+                           other_back, sizeof other_back);
+}
+
+/* The same step again and again: what it changes is put back before it. */
+static void our_notice_step(void)
+{
+    memcpy(notice_states[0], notice_base, sizeof notice_base);
+    kept = our_notice_step_of(0, from, record, record_len).number;
+}
+
+static void other_notice_step(void)
+{
+    memcpy(&notice_boards[0], &other_notice_base, sizeof other_notice_base);
+    kept = other_notice_step_of(0, from, record, record_len).number;
+}
+
+/* Notices of 64 bytes that may differ in their last byte. */
+static void make_notice(uint32_t kind, uint32_t board, uint8_t last)
+{
+    uint8_t notice[NOTICE];
+
+    memcpy(notice, message, NOTICE);
+    notice[NOTICE - 1] = last;
+    record_len = tumbeliko_write_notice(kind, notice, NOTICE, record, sizeof record).length;
+    from = kind == TUMBELIKO_NOTICE_SEND ? 1 : board;
+}
+
+static void hear_notice(uint32_t kind, uint32_t first, uint32_t last, bool apart)
+{
+    for (uint32_t board = first; board <= last; board++) {
+        make_notice(kind, board, apart ? (uint8_t)board : 0);
+        must(our_notice_step_of(0, from, record, record_len).number
+             == other_notice_step_of(0, from, record, record_len).number, "notice step, reference");
+    }
+}
+
+/* Times the step of `record` on the board as it stands. */
+static void notice_step_row(const char *what, uint32_t number, uint32_t delivery)
+{
+    char input[60];
+    tumbeliko_stepped ours;
+    ref_stepped other;
+
+    memcpy(notice_base, notice_states[0], sizeof notice_base);
+    other_notice_base = notice_boards[0];
+    ours = our_notice_step_of(0, from, record, record_len);
+    other = other_notice_step_of(0, from, record, record_len);
+    must(ours.number == number && other.number == number && ours.offset == other.offset
+         && ours.delivery == delivery && other.delivery == delivery
+         && ours.record_length == other.record_length && memcmp(out, other_out, ours.record_length) == 0
+         && ours.message_length == other.message_length && memcmp(back, other_back, ours.message_length) == 0, what);
+    snprintf(input, sizeof input, "%s, n %u, 64 B", what, n);
+    pair_row("notice step", input, our_notice_step, other_notice_step);
+    memcpy(notice_states[0], notice_base, sizeof notice_base);
+    notice_boards[0] = other_notice_base;
+}
+
+static void notice_step_rows(void)
+{
+    our_notice_start();
+    other_notice_start();
+    make_notice(TUMBELIKO_NOTICE_SEND, 1, 0);
+    notice_step_row("send", 0, 0);
+    hear_notice(TUMBELIKO_NOTICE_ECHO, 1, n - t - 1, false);
+    make_notice(TUMBELIKO_NOTICE_ECHO, n, 0);
+    notice_step_row("echo, a vote put out", 0, 0);
+    hear_notice(TUMBELIKO_NOTICE_ECHO, n, n, false);
+    hear_notice(TUMBELIKO_NOTICE_VOTE, 1, n - t - 1, false);
+    make_notice(TUMBELIKO_NOTICE_VOTE, 1, 0);
+    notice_step_row("refused 9", TUMBELIKO_SECOND, 0);
+    record_len--;
+    notice_step_row("refused 20", TUMBELIKO_CUT_OFF, 0);
+    make_notice(TUMBELIKO_NOTICE_VOTE, n, 0);
+    notice_step_row("vote, delivering", 0, 1);
+    our_notice_start();
+    other_notice_start();
+    hear_notice(TUMBELIKO_NOTICE_ECHO, 1, n - 1, true);
+    hear_notice(TUMBELIKO_NOTICE_VOTE, 1, n - 1, true);
+    make_notice(TUMBELIKO_NOTICE_VOTE, n, (uint8_t)n);
+    notice_step_row("vote, all notices differ", 0, 0);
+}
+
+/* A whole broadcast: every record to every board, in turn. */
+static void notice_broadcast(bool ours)
+{
+    uint8_t *put = ours ? out : other_out;
+    uint32_t delivered = 0, length = 0;
+
+    for (uint32_t i = 0; i < n; i++)
+        if (ours)
+            tumbeliko_notice_start(n, t, 1, i + 1, notice_states[i], sizeof *notice_states);
+        else
+            ref_notice_start(n, t, 1, i + 1, &notice_boards[i], sizeof *notice_states);
+    for (uint32_t kind = TUMBELIKO_NOTICE_SEND; kind <= TUMBELIKO_NOTICE_VOTE; kind++)
+        for (uint32_t i = 0; i < n; i++)
+            for (uint32_t by = 1; by <= (kind == TUMBELIKO_NOTICE_SEND ? 1 : n); by++) {
+                length = ours ? tumbeliko_write_notice(kind, message, NOTICE, record, sizeof record).length
+                              : ref_write_notice(kind, message, NOTICE, record, sizeof record).length;
+                delivered += ours ? our_notice_step_of(i, by, record, length).delivery
+                                  : other_notice_step_of(i, by, record, length).delivery;
+            }
+    must(length > 0 && put[0] == TUMBELIKO_NOTICE_VOTE, "whole broadcast of a notice");
+    kept = delivered;
+}
+
+static void our_notice_broadcast(void)      { notice_broadcast(true); }
+static void other_notice_broadcast(void)    { notice_broadcast(false); }
+
+static void notice_rows(void)
+{
+    static const uint32_t tables_of[][2] = { { 7, 2 }, { 64, 21 } };
+    char input[60];
+
+    notice_states = calloc(64, sizeof *notice_states);
+    notice_boards = calloc(64, sizeof *notice_boards);
+    if (notice_states == NULL || notice_boards == NULL) {
+        fprintf(stderr, "bench: no memory for the notice boards\n");
+        return;
+    }
+    printf("\n| call | input | tumbeliko %s | reference %s | ratio |\n|---|---|---:|---:|---:|\n", clock_unit(), clock_unit());
+    turns = 25;
+    make_notice(TUMBELIKO_NOTICE_ECHO, 1, 0);
+    our_notice_reader();
+    must(kept == NOTICE, "read notice");
+    pair_row("read notice", "echo, 64 B", our_notice_reader, other_notice_reader);
+    our_notice_writer();
+    other_notice_writer();
+    must(kept == NOTICE + 3 && memcmp(out, other_out, kept) == 0, "write notice, reference");
+    pair_row("write notice", "echo, 64 B", our_notice_writer, other_notice_writer);
+    for (int i = 0; i < 2; i++) {
+        set_table(tables_of[i][0], tables_of[i][1]);
+        snprintf(input, sizeof input, "n %u", n);
+        pair_row("notice start", input, our_notice_start, other_notice_start);
+        our_notice_send();
+        other_notice_send();
+        must(kept == NOTICE + 3 && memcmp(out, other_out, kept) == 0, "notice send, reference");
+        snprintf(input, sizeof input, "n %u, 64 B", n);
+        pair_row("notice send", input, our_notice_send, other_notice_send);
+        notice_step_rows();
+        our_notice_broadcast();
+        must(kept == n, "whole broadcast of a notice");
+        other_notice_broadcast();
+        must(kept == n, "whole broadcast of a notice, reference");
+        turns = n > 10 ? 2 : turns;
+        snprintf(input, sizeof input, "n %u, 64 B, %u steps", n, n + 2 * n * n);
+        pair_row("whole notice", input, our_notice_broadcast, other_notice_broadcast);
+    }
+}
+
 static void board_rows(void)
 {
     static const uint32_t tables_of[][2] = { { 7, 2 }, { 64, 21 } };
@@ -812,6 +1003,7 @@ static void board_rows(void)
         pair_row("whole broadcast", input, our_broadcast, other_broadcast);
     }
     mailbox_rows();
+    notice_rows();
 }
 
 int main(int argc, char **argv)

@@ -54,6 +54,7 @@ part board make --no-print-directory board-test
 part mailbox make --no-print-directory mailbox-test
 part notice make --no-print-directory notice-test
 part line make --no-print-directory line-test
+part notice-line make --no-print-directory notice-line-test
 part drill make --no-print-directory drill-test
 part program make --no-print-directory program-test
 part stack make --no-print-directory stack-test

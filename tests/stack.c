@@ -33,6 +33,7 @@
 #define LIMIT_DELIVERING         1560
 #define LIMIT_MAILBOX            (LIMIT + 64)
 #define LIMIT_MAILBOX_DELIVERING 1576
+#define LIMIT_NOTICE             512    /* what older boards have for a call */
 
 static uint8_t *stack;
 static ucontext_t here, there;
@@ -163,6 +164,37 @@ static tumbeliko_sized no_send(uint32_t a, uint32_t b, uint32_t c, uint32_t d, c
     return nothing;
 }
 
+static tumbeliko_notice no_notice_reader(const uint8_t *r, size_t rl)
+{
+    static const tumbeliko_notice nothing;
+
+    (void)r, (void)rl;
+    return nothing;
+}
+
+static tumbeliko_written no_notice_writer(uint32_t a, const uint8_t *v, size_t vl, uint8_t *o, size_t ol)
+{
+    static const tumbeliko_written nothing;
+
+    (void)a, (void)v, (void)vl, (void)o, (void)ol;
+    return nothing;
+}
+
+static uint32_t no_notice_start(uint32_t a, uint32_t b, uint32_t c, uint32_t d, uint8_t *s, size_t sl)
+{
+    (void)a, (void)b, (void)c, (void)d, (void)s, (void)sl;
+    return 0;
+}
+
+static tumbeliko_sized no_notice_send(uint32_t a, uint32_t b, uint32_t c, const uint8_t *v, size_t vl, uint32_t d,
+                                      uint8_t *o, size_t ol)
+{
+    static const tumbeliko_sized nothing;
+
+    (void)a, (void)b, (void)c, (void)v, (void)vl, (void)d, (void)o, (void)ol;
+    return nothing;
+}
+
 static tumbeliko_digest (*volatile hash)(const uint8_t *, size_t);
 static bool (*volatile path_correct)(uint32_t, uint32_t, const uint8_t *, size_t, const uint8_t *, size_t,
                                      const uint8_t *, size_t);
@@ -183,8 +215,21 @@ static tumbeliko_mailed (*volatile mailbox)(uint8_t *, size_t, const uint8_t *, 
 static tumbeliko_sized (*volatile send)(uint32_t, uint32_t, uint32_t, uint32_t, const uint8_t *, size_t, uint32_t,
                                         uint8_t *, size_t);
 
+static tumbeliko_notice (*volatile notice_reader)(const uint8_t *, size_t);
+static tumbeliko_written (*volatile notice_writer)(uint32_t, const uint8_t *, size_t, uint8_t *, size_t);
+static uint32_t (*volatile notice_start)(uint32_t, uint32_t, uint32_t, uint32_t, uint8_t *, size_t);
+static tumbeliko_stepped (*volatile notice_step)(uint8_t *, size_t, uint32_t, const uint8_t *, size_t,
+                                                 uint8_t *, size_t, uint8_t *, size_t);
+static tumbeliko_sized (*volatile notice_send)(uint32_t, uint32_t, uint32_t, const uint8_t *, size_t, uint32_t,
+                                               uint8_t *, size_t);
+
 static void all_real(void)
 {
+    notice_reader = tumbeliko_read_notice;
+    notice_writer = tumbeliko_write_notice;
+    notice_start = tumbeliko_notice_start;
+    notice_step = tumbeliko_notice_step;
+    notice_send = tumbeliko_notice_send;
     reader = tumbeliko_read_record;
     writer = tumbeliko_write_record;
     start = tumbeliko_start;
@@ -200,6 +245,11 @@ static void all_real(void)
 
 static void all_empty(void)
 {
+    notice_reader = no_notice_reader;
+    notice_writer = no_notice_writer;
+    notice_start = no_notice_start;
+    notice_step = no_step;
+    notice_send = no_notice_send;
     reader = no_reader;
     writer = no_writer;
     start = no_start;
@@ -294,7 +344,7 @@ static size_t used(void (*run)(void))
     empty = painted(run);
     all_real();
     whole = painted(run);
-    return whole > empty ? whole - empty + sizeof(void *) : 0;
+    return whole >= empty ? whole - empty + sizeof(void *) : 0;
 }
 
 static size_t worst;
@@ -467,6 +517,108 @@ static void mailbox_lines(void)
     }
 }
 
+/* ---- notices */
+
+#define NOTICE TUMBELIKO_NOTICE_MAX
+
+static void run_notice_reader(void)
+{
+    kept = notice_reader(record, record_len).length;
+}
+
+static void run_notice_writer(void)
+{
+    kept = notice_writer(TUMBELIKO_NOTICE_ECHO, message, NOTICE, out, sizeof out).length;
+}
+
+static void run_notice_start(void)
+{
+    kept = notice_start(n, t, 1, n, state, sizeof state);
+}
+
+static void run_notice_send(void)
+{
+    kept = notice_send(n, t, 1, message, NOTICE, n, out, sizeof out).length;
+}
+
+/* A step from the same state each time. */
+static void run_notice_step(void)
+{
+    tumbeliko_stepped did;
+
+    memcpy(state, base, TUMBELIKO_NOTICE_STATE_BYTES);
+    did = notice_step(state, sizeof state, from, record, record_len, out, sizeof out, back, sizeof back);
+    kept = did.number != 0 ? 100 + did.number : did.delivery != 0 ? 2 : did.record_length != 0;
+}
+
+/* Notices of 64 bytes, alike but for the last byte. */
+static void make_notice(uint32_t kind, uint32_t board, uint8_t last)
+{
+    uint8_t notice[NOTICE];
+
+    memcpy(notice, message, NOTICE);
+    notice[NOTICE - 1] = last;
+    record_len = tumbeliko_write_notice(kind, notice, NOTICE, record, sizeof record).length;
+    from = kind == TUMBELIKO_NOTICE_SEND ? 1 : board;
+}
+
+static void hear_notice(uint32_t kind, uint32_t first, uint32_t last, bool apart)
+{
+    for (uint32_t board = first; board <= last; board++) {
+        make_notice(kind, board, apart ? (uint8_t)board : 0);
+        tumbeliko_notice_step(base, sizeof base, from, record, record_len, out, sizeof out, back, sizeof back);
+    }
+}
+
+/* `outcome`: 0 nothing, 1 a record put out, 2 a delivery, 100 + a number refused. */
+static void notice_line(const char *what, uint32_t outcome)
+{
+    char input[60];
+
+    run_notice_step();
+    expect(what, kept == outcome);
+    snprintf(input, sizeof input, "%s, 64 B, n %u, t %u", what, n, t);
+    line("notice step", input, run_notice_step, LIMIT_NOTICE);
+}
+
+/* A step has the most to compare in a state full of notices that differ in their last byte. */
+static void notice_lines(void)
+{
+    char input[60];
+
+    make_notice(TUMBELIKO_NOTICE_ECHO, n, 0);
+    line("read notice", "64 B", run_notice_reader, LIMIT_NOTICE);
+    line("write notice", "64 B", run_notice_writer, LIMIT_NOTICE);
+    snprintf(input, sizeof input, "n %u, t %u", n, t);
+    line("notice start", input, run_notice_start, LIMIT_NOTICE);
+    snprintf(input, sizeof input, "64 B, n %u, t %u", n, t);
+    line("notice send", input, run_notice_send, LIMIT_NOTICE);
+    tumbeliko_notice_start(n, t, 1, n, base, sizeof base);
+    make_notice(TUMBELIKO_NOTICE_SEND, 1, 0);
+    notice_line("send", 1);
+    record_len--;
+    notice_line("refused 20", 100 + TUMBELIKO_CUT_OFF);
+    if (n > 1) {
+        hear_notice(TUMBELIKO_NOTICE_ECHO, 1, n - 1, true);
+        hear_notice(TUMBELIKO_NOTICE_VOTE, 1, n - 1, true);
+        make_notice(TUMBELIKO_NOTICE_ECHO, n, (uint8_t)n);
+        notice_line("echo, all differ", 0);
+        make_notice(TUMBELIKO_NOTICE_VOTE, n - 1, 0);
+        notice_line("refused 9", 100 + TUMBELIKO_SECOND);
+    }
+    tumbeliko_notice_start(n, t, 1, n, base, sizeof base);
+    hear_notice(TUMBELIKO_NOTICE_ECHO, 1, n - t - 1, false);
+    make_notice(TUMBELIKO_NOTICE_ECHO, n, 0);
+    notice_line("echo, voting", 1);
+    tumbeliko_notice_start(n, t, 1, n, base, sizeof base);
+    hear_notice(TUMBELIKO_NOTICE_ECHO, 1, n, false);
+    hear_notice(TUMBELIKO_NOTICE_VOTE, 1, n - t - 1, false);
+    make_notice(TUMBELIKO_NOTICE_VOTE, n, 0);
+    notice_line("vote, delivering", 2);
+    hear_notice(TUMBELIKO_NOTICE_VOTE, n, n, false);
+    notice_line("refused 8", 100 + TUMBELIKO_LATE);
+}
+
 static void board_lines(void)
 {
     char input[60];
@@ -490,6 +642,7 @@ static void board_lines(void)
     step_line("refused 20", LIMIT);
     delivering_lines();
     mailbox_lines();
+    notice_lines();
 }
 
 int main(void)
