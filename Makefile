@@ -32,7 +32,7 @@ NOTICES   = tests/notices.c
 LINES     = tests/lines.c
 LINE      = $(wildcard examples/line/*.c examples/line/*.h)
 PROGRAM   = $(wildcard tools/*.c tools/*.h)
-FUZZ      = fuzz/fuzz.c fuzz/drawn.c fuzz/ground.c fuzz/board.c fuzz/drill.c
+FUZZ      = fuzz/fuzz.c fuzz/drawn.c fuzz/ground.c fuzz/board.c fuzz/notice.c fuzz/drill.c
 HEADERS   = include/tumbeliko.h include/drill.h tests/harness.h tests/trees.h tests/states.h tests/mail.h tests/reference/reference.h \
             tests/reference/fields.h tests/notices.h tests/lines.h bench/plain.h bench/clock.h
 BUILD     = $(CC) $(CFLAGS) $(CPPFLAGS) -Iinclude -Itests $(LINK)

@@ -816,16 +816,23 @@ static ref_stepped other_notice_step_of(uint32_t i, uint32_t by, const uint8_t *
                            other_back, sizeof other_back);
 }
 
-/* The same step again and again: what it changes is put back before it. */
+/* The same step again and again: what it may change, flags, sets and what is
+ * kept of one board, is put back before it. */
 static void our_notice_step(void)
 {
-    memcpy(notice_states[0], notice_base, sizeof notice_base);
+    size_t echo = 32 + 65 * (from - 1), vote = echo + 64 * 65;  /* docs/STATE.md */
+
+    memcpy(notice_states[0], notice_base, 32);
+    memcpy(notice_states[0] + echo, notice_base + echo, 65);
+    memcpy(notice_states[0] + vote, notice_base + vote, 65);
     kept = our_notice_step_of(0, from, record, record_len).number;
 }
 
 static void other_notice_step(void)
 {
-    memcpy(&notice_boards[0], &other_notice_base, sizeof other_notice_base);
+    memcpy(&notice_boards[0], &other_notice_base, offsetof(ref_notice_board, echo));
+    notice_boards[0].echo[from - 1] = other_notice_base.echo[from - 1];
+    notice_boards[0].vote[from - 1] = other_notice_base.vote[from - 1];
     kept = other_notice_step_of(0, from, record, record_len).number;
 }
 

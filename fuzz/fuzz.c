@@ -9,6 +9,9 @@ static const struct {
     { "read block", try_read_block }, { "read record", try_read_record }, { "damaged record", try_damaged_record },
     { "write record", try_write_record }, { "send", try_send }, { "start", try_start }, { "step", try_steps },
     { "step, damaged state", try_damaged_state }, { "drill", try_drill }, { "mailbox", try_mailboxes },
+    { "read notice", try_read_notice }, { "write notice", try_write_notice }, { "notice send", try_notice_send },
+    { "notice start", try_notice_start }, { "notice step", try_notice_steps },
+    { "notice step, damaged state", try_damaged_notice_state },
 };
 
 #define CALLS (sizeof calls / sizeof *calls)
@@ -45,11 +48,11 @@ void show_counts(void)
 
         for (int number = 0; number < REF_NUMBERS; number++)
             all += counts[i][number];
-        printf("  %-20s %9lu calls", calls[i].name, all);
+        printf("  %-26s %9lu calls", calls[i].name, all);
         for (int number = 0; number < REF_NUMBERS; number++)
             if (counts[i][number] > 0)
                 printf("  %d: %lu", number, counts[i][number]);
         printf("\n");
     }
-    printf("  %lu messages and %lu voids delivered\n", deliveries[1], deliveries[2]);
+    printf("  %lu messages and notices and %lu voids delivered\n", deliveries[1], deliveries[2]);
 }

@@ -8,6 +8,7 @@
  *   drawn.c     arguments drawn from the input's bytes; buffers between inaccessible pages
  *   ground.c    hash, path check, encode, rebuild, read block
  *   board.c     records, start, send, step, mailbox
+ *   notice.c    the same of notices
  *   drill.c     the drill
  *   find.c      libFuzzer's entry: finds inputs, guided by the reference's coverage
  *   replay.c    hands found inputs, and changed ones, to both
@@ -54,7 +55,7 @@ size_t damage(uint8_t *bytes, size_t len, size_t most);
 uint8_t *lend(unsigned room, const uint8_t *contents, size_t len);
 bool holds(unsigned room, const uint8_t *contents);
 
-/* ---- ground.c and board.c: one call each, or a run of them */
+/* ---- ground.c, board.c and notice.c: one call each, or a run of them */
 
 void try_hash(void);
 void try_path(void);
@@ -69,6 +70,12 @@ void try_start(void);
 void try_steps(void);
 void try_damaged_state(void);
 void try_mailboxes(void);
+void try_read_notice(void);
+void try_write_notice(void);
+void try_notice_send(void);
+void try_notice_start(void);
+void try_notice_steps(void);
+void try_damaged_notice_state(void);
 
 /* ---- drill.c: a whole drill */
 
