@@ -54,7 +54,7 @@ help:
 	@echo "              one page for an auditor, build/statement.html, from the specs: what is proved, every definition that it cites down to the"
 	@echo "              bytes, and the count of lines to believe"
 	@echo "make demo     a message cut into fragments and rebuilt; then a file spread over a line of boards while the sender fails, and"
-	@echo "              again while it lies; a picture of each run in build/. FILE=path spreads another file"
+	@echo "              again while it lies; then a notice; a picture of each run in build/. FILE=path spreads another file"
 	@echo "make drill    the drill program, build/drill: a script of steps in, a line for each step out"
 	@echo "make program  the program for technicians, build/tumbeliko: what a record holds, or what is wrong with it and where"
 	@echo "make lib      prove the library and write build/libtumbeliko.a"
@@ -201,6 +201,10 @@ build/seven: examples/seven.c $(HEADERS) $(LIB) | build $(TOOLS)
 	@echo "building $@ with $(LIB)"
 	@$(BUILD) examples/seven.c $(LIB) $(LDFLAGS) -o $@
 
+build/notice: examples/notice.c $(HEADERS) $(LIB) | build $(TOOLS)
+	@echo "building $@ with $(LIB)"
+	@$(BUILD) examples/notice.c $(LIB) $(LDFLAGS) -o $@
+
 build/line-demo: $(LINE) $(HEADERS) $(LIB) | build $(TOOLS)
 	@echo "building $@ with $(LIB)"
 	@$(BUILD) $(filter %.c,$(LINE)) $(LIB) $(LDFLAGS) -o $@
@@ -253,7 +257,7 @@ program-test: build/tumbeliko
 	@$(MAKE) --no-print-directory install DESTDIR="$(CURDIR)/build/installed" PREFIX=/usr
 	@RUN="$(RUN)" LIB="$(LIB)" sh tests/program.sh
 
-examples-test: build/demo build/seven build/line-demo
+examples-test: build/demo build/seven build/notice build/line-demo
 	@RUN="$(RUN)" sh tests/examples.sh
 
 # A new seed each time; stops at the first failure, and says which seed it was.
@@ -325,7 +329,10 @@ line-demo: build/line-demo
 	@echo "== the sender sends fragments of no block, and board 4 lies"
 	@$(RUN) build/line-demo --seed $(or $(SEED),1) --breaks 1:garbles,4:lies --picture build/line-2.svg $(FILE)
 	@echo
-	@echo "pictures of the two runs, for a browser: build/line-1.svg and build/line-2.svg"
+	@echo "== a notice, which a sender that lies tells in two ways, and board 4 lies"
+	@$(RUN) build/line-demo --seed $(or $(SEED),15) --breaks 1:splits,4:lies --picture build/line-3.svg --notice "shelf door open"
+	@echo
+	@echo "pictures of the three runs, for a browser: build/line-1.svg, build/line-2.svg and build/line-3.svg"
 
 clean:
 	@rm -rf build target

@@ -81,6 +81,15 @@ seq 1 800 > build/numbers
 $RUN build/seven build/numbers > build/seven.log || true
 [ "$(grep -c 'bytes: the file$' build/seven.log)" -eq 7 ] && say seven 0 || say seven 1
 
+# shellcheck disable=SC2086
+$RUN build/notice > build/notice.log && [ "$(grep -c '^board [1-3] delivers 15 bytes: shelf door open$' build/notice.log)" -eq 3 ] &&
+    [ "$(wc -l < build/notice.log)" -eq 3 ] && say notice 0 || say notice 1
+# shellcheck disable=SC2086
+$RUN build/notice '' > build/notice.log && [ "$(grep -c 'delivers 0 bytes: $' build/notice.log)" -eq 3 ] && say "an empty notice" 0 || say "an empty notice" 1
+# shellcheck disable=SC2086
+$RUN build/notice "$(seq -s ' ' 1 26)" > build/notice.log 2>&1 && say "a notice of 68 bytes" 1 ||
+    { grep -q 'was refused with 13$' build/notice.log && say "a notice of 68 bytes" 0 || say "a notice of 68 bytes" 1; }
+
 holds 2 --seed 10 --breaks 1:fails,4:lies build/numbers
 [ "$(grep -c 'vote  the file' build/line-demo.log)" -eq 5 ] && say "all deliver the file" 0 || say "all deliver the file" 1
 holds 2 --seed 1 --breaks 1:garbles,4:lies build/numbers
@@ -106,6 +115,25 @@ for seed in 1 2 3 4 5 6 7 8 9; do
     holds 2 --seed $seed --poll $seed --breaks 1:lies,2:lies
     holds 3 --seed $seed --poll $((10 * seed)) --breaks 2:lies,3:lies --loss 30
 done
+# notices: 64 bytes, none, such as are no text
+longest=$(seq -s '' 1 40 | head -c 64)
+holds 3 --seed 1 --notice 'shelf door open' --breaks 3:lies,4:fails
+[ "$(grep -c '  the notice ' build/line-demo.log)" -eq 5 ] && say "all deliver the notice" 0 || say "all deliver the notice" 1
+grep -q '^the notice "shelf door open", 15 bytes, from board 1 to 7 boards' build/line-demo.log && say "the notice is named" 0 || say "the notice is named" 1
+holds 3 --seed 2 --notice '' --breaks none
+grep -q '^the notice "", 0 bytes' build/line-demo.log && say "an empty notice is named" 0 || say "an empty notice is named" 1
+holds 3 --seed 3 --notice "$longest" --loss 50 --breaks 2:silent,7:lies
+holds 3 --seed 4 --notice "$longest" -n 1
+holds 3 --seed 5 --notice "$(printf 'tab\tand \033[1m')" -n 4 --breaks none
+grep -q '^the notice "tab?and ?\[1m", 12 bytes' build/line-demo.log && say "no notice drives a terminal" 0 || say "no notice drives a terminal" 1
+holds 3 --seed 1 --notice 'shelf door open' -n 64 --breaks 2:lies,3:lies,64:fails
+holds 2 --seed 4 --notice 'shelf door open' --breaks 1:splits,4:lies
+for seed in 1 2 3 4 5 6 7 8 9; do
+    holds 2 --seed $seed --notice 'shelf door open' --breaks 1:lies,2:lies
+    holds 3 --seed $seed --notice '' --breaks 2:lies,3:lies --loss 30
+    holds 2 --seed $seed --notice "$longest" --breaks 1:splits,7:fails
+done
+
 holds 3 --seed 1 --breaks none
 grep -q '^  mailboxes' build/line-demo.log && say "no mailboxes, no word of them" 1 || say "no mailboxes, no word of them" 0
 
@@ -114,12 +142,16 @@ draws --seed 1 --breaks 1:garbles,4:lies build/numbers
 draws --seed 3 -n 13 --loss 40 --breaks none
 draws --seed 3 -n 20 --breaks 1:splits,2:silent
 draws --seed 3 --poll 15 --breaks 4:lies
+draws --seed 1 --notice 'shelf door open' --breaks 1:splits,4:lies
+grep -q '<title>7 boards spread a notice</title>' build/test.svg && grep -q ', notice "shelf door open", accepted' build/test.svg &&
+    ! grep -q void build/test.svg && say "the picture tells of notices" 0 || say "the picture tells of notices" 1
+draws --seed 1 --notice 'a<b>&"c' -n 4
 odd='build/a<b>&"c.txt'
 echo odd > "$odd"
 draws --seed 1 "$odd"
 rm -f "$odd"
 
-line --help > build/line-demo.log && grep -q '^usage: ' build/line-demo.log && grep -q '  --poll MS  ' build/line-demo.log && say help 0 || say help 1
+line --help > build/line-demo.log && grep -q '^usage: ' build/line-demo.log && grep -q '  --poll MS  ' build/line-demo.log && grep -q '  --notice TEXT  ' build/line-demo.log && say help 0 || say help 1
 refuses 'there must be 1 to 64 boards' -n 0
 refuses 'there must be 1 to 64 boards' -n 65
 refuses '3t must be below n' -n 6 -t 2
@@ -141,6 +173,13 @@ refuses 'one file at a time' README.md Makefile
 refuses 'No such file' build/no-such-file
 refuses 'longer than 16,384 bytes' build/line-demo
 refuses 'No such file' --picture build/no-such-folder/x.svg
+refuses 'a notice has at most 64 bytes: ' --notice "${longest}x"
+refuses 'something must follow: --notice' --notice
+refuses 'given twice: --notice' --notice a --notice b
+refuses 'a notice or a file, not both: README.md' --notice a README.md
+refuses 'a notice or a file, not both: README.md' --file README.md --notice a
+refuses 'notices have no mailbox: --poll does not go with --notice' --notice a --poll 10
+refuses 'a notice has no fragments to garble: 1:garbles' --notice a --breaks 1:garbles
 
 echo "$passed passed, $failed failed"
 [ "$failed" -eq 0 ]

@@ -81,7 +81,7 @@ static void send_garbled(void)
     }
 }
 
-/* The file to some boards, and to the others the file with one byte changed. */
+/* The file or notice to some boards, and to the others the same with one byte changed. */
 static void send_split(void)
 {
     static uint8_t out[TUMBELIKO_OUT_BYTES], other[LONGEST];
@@ -92,20 +92,20 @@ static void send_split(void)
     other[other_len - 1] ^= 1;
     for (uint32_t i = 0; i < play.n; i++) {
         uint32_t to = 1 + (first + i) % play.n;
-        size_t sent = tumbeliko_send(play.n, play.t, SENDER, LONGEST, i < part ? play.file : other,
-                                     i < part ? play.file_len : other_len, to, out, sizeof out).length;
+        size_t sent = send_record(i < part ? play.file : other, i < part ? play.file_len : other_len, to,
+                                  out, sizeof out).length;
 
         put_out_one(SENDER, to, kept(out, sent), sent, false, i * put_out_gap());
     }
 }
 
-/* What a sender that does not run the step puts out. `lies` is one of the two, by the seed. */
+/* What a sender that does not run the step puts out. `lies` is one of the two, by the seed; a notice has no fragments. */
 void send_lies(void)
 {
     behaviour how = play.behaves[SENDER - 1];
 
     if (how == LIES)
-        how = random_below(2) ? GARBLES : SPLITS;
+        how = random_below(2) && !play.notice ? GARBLES : SPLITS;
     if (how == GARBLES)
         send_garbled();
     if (how == SPLITS)
@@ -117,27 +117,38 @@ void send_lies(void)
 static unsigned told[BOARDS];           /* lies that a board has told */
 static letter own_send[BOARDS];         /* the send that it got */
 
+/* A vote for what the record names, a root or a notice, or for something of its own making. */
+static size_t untimely_vote(const letter *one, bool own_making, uint8_t *record)
+{
+    static const uint8_t made_up[TUMBELIKO_ROOT_BYTES] = { 0xee };
+
+    if (play.notice)
+        return tumbeliko_write_notice(TUMBELIKO_NOTICE_VOTE, own_making ? made_up : one->bytes + TUMBELIKO_RECORD_NOTICE,
+                                      own_making ? sizeof made_up : one->len - TUMBELIKO_RECORD_NOTICE,
+                                      record, TUMBELIKO_OUT_BYTES).length;
+    return tumbeliko_write_record(TUMBELIKO_VOTE, own_making ? made_up : one->bytes + TUMBELIKO_RECORD_ROOT,
+                                  TUMBELIKO_ROOT_BYTES, root, 0, root, 0, record, TUMBELIKO_OUT_BYTES).length;
+}
+
 /* Something untrue, made from a record that came in. Answers its length. */
 static size_t twisted(const letter *one, uint8_t *record)
 {
-    static uint8_t own_making[TUMBELIKO_ROOT_BYTES] = { 0xee };
-    const uint8_t *named = one->bytes + TUMBELIKO_RECORD_ROOT;
+    uint32_t lie = random_below(6);
 
     memcpy(record, one->bytes, one->len);
-    switch (random_below(6)) {
-    case 0:                                             /* a vote for a root of its own making, */
-        named = own_making;                             /* fall through */
-    case 1:                                             /* or one before its time */
-        return tumbeliko_write_record(TUMBELIKO_VOTE, named, TUMBELIKO_ROOT_BYTES, root, 0, root, 0,
-                                      record, TUMBELIKO_OUT_BYTES).length;
-    case 2:                                             /* another board's fragment or vote, in its own name */
-        record[0] = record[0] == TUMBELIKO_SEND ? TUMBELIKO_ECHO : record[0];
+    switch (lie) {
+    case 0:
+    case 1:
+        return untimely_vote(one, lie == 0, record);
+    case 2:                                             /* what another board said, in its own name */
+        if (sort_of(record, one->len) == TUMBELIKO_SEND)
+            record[0] = kind_of(TUMBELIKO_ECHO);
         return one->len;
-    case 3:                                             /* the same, damaged */
-        record[TUMBELIKO_RECORD_ROOT] ^= 1;
+    case 3:                                             /* the same, damaged: the root, or the notice's last byte */
+        record[play.notice ? one->len - 1 : TUMBELIKO_RECORD_ROOT] ^= 1;
         return one->len;
     case 4:                                             /* as if it were the sender */
-        record[0] = TUMBELIKO_SEND;
+        record[0] = kind_of(TUMBELIKO_SEND);
         return one->len;
     default:                                            /* cut short */
         return one->len - 1;
@@ -148,7 +159,7 @@ static size_t twisted(const letter *one, uint8_t *record)
 static size_t true_echo(const letter *sent, uint8_t *record)
 {
     memcpy(record, sent->bytes, sent->len);
-    record[0] = TUMBELIKO_ECHO;
+    record[0] = kind_of(TUMBELIKO_ECHO);
     return sent->len;
 }
 
@@ -163,7 +174,7 @@ void hears_and_lies(const letter *one)
 
     if (play.behaves[liar - 1] < LIES || one->from == liar || !one->genuine)
         return;
-    if (one->bytes[0] == TUMBELIKO_SEND)
+    if (sort_of(one->bytes, one->len) == TUMBELIKO_SEND)
         *sent = *one;
     if (told[liar - 1] == 2 * play.n || to == liar)
         return;

@@ -53,10 +53,9 @@ static void start_all(void)
     for (uint32_t own = 1; own <= play.n; own++) {
         board *one = &line[own - 1];
 
-        one->state_len = TUMBELIKO_STATE_BYTES(play.n, TUMBELIKO_S_MAX(play.n, play.t, LONGEST));
+        one->state_len = state_bytes();
         one->state = room_for(one->state_len);
-        must_not_be_refused("the start", tumbeliko_start(play.n, play.t, SENDER, LONGEST, own,
-                                                         one->state, one->state_len));
+        must_not_be_refused("the start", start_board(own, one->state, one->state_len));
         one->echoed_at = one->voted_at = one->delivered_at = one->stops_at = NEVER;
         if (play.behaves[own - 1] == FAILS)
             one->stops_at = drawn_stop(own);
@@ -70,10 +69,9 @@ static void send_all(void)
 
     for (uint32_t i = 0; i < play.n && i * put_out_gap() < line[SENDER - 1].stops_at; i++) {
         uint32_t to = 1 + (first + i) % play.n;
-        tumbeliko_sized sent = tumbeliko_send(play.n, play.t, SENDER, LONGEST, play.file, play.file_len, to,
-                                              out, sizeof out);
+        tumbeliko_sized sent = send_record(play.file, play.file_len, to, out, sizeof out);
 
-        must_not_be_refused("the file", sent.number);
+        must_not_be_refused("the sender's record", sent.number);
         put_out_one(SENDER, to, kept(out, sent.length), sent.length, true, i * put_out_gap());
     }
 }
@@ -92,7 +90,7 @@ void note_answer(letter *which, uint32_t number)
     seen.answers[number % TUMBELIKO_NUMBERS]++;
     receiver->steps++;
     if (number == TUMBELIKO_OK) {
-        receiver->heard[which->bytes[0] & 3]++;
+        receiver->heard[sort_of(which->bytes, which->len)]++;
         receiver->taken_step = seen.handed;
     } else {
         receiver->refused++;
@@ -109,7 +107,7 @@ void put_out_to_all(uint32_t from, const uint8_t *out, size_t len)
     for (uint32_t i = 0; i < play.n; i++, when += put_out_gap())
         if (when < line[from - 1].stops_at)
             put_out_one(from, 1 + (first + i) % play.n, bytes, len, true, when);
-    if (out[0] == TUMBELIKO_ECHO)
+    if (sort_of(out, len) == TUMBELIKO_ECHO)
         line[from - 1].echoed_at = now;
     else
         line[from - 1].voted_at = now;
@@ -131,8 +129,7 @@ static void hand_over(letter *which)
     static uint8_t out[TUMBELIKO_OUT_BYTES], delivery[LONGEST];
     uint32_t own = which->to;
     board *receiver = &line[own - 1];
-    tumbeliko_stepped did = tumbeliko_step(receiver->state, receiver->state_len, which->from, which->bytes, which->len,
-                                           out, sizeof out, delivery, sizeof delivery);
+    tumbeliko_stepped did = step_board(receiver, which, out, sizeof out, delivery, sizeof delivery);
 
     seen.calls++;
     note_answer(which, did.number);

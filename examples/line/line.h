@@ -1,8 +1,10 @@
 /*
- * A line of boards that spreads a file, shown as a table and as a picture.
+ * A line of boards that spreads a file or a notice, shown as a table and as
+ * a picture.
  *
  *   main.c      options
  *   line.c      the boards that keep the rules, and the run
+ *   calls.c     the calls of the one broadcast or the other
  *   post.c      records on their way: when each is put out and handed over
  *   mail.c      mailboxes, if the boards have them: all that a poll finds in one call
  *   lies.c      the boards that break the rules
@@ -10,7 +12,7 @@
  *   picture.c   what is drawn; marks.c its arrows and marks
  *
  * Everything a board does is done through the calls of tumbeliko.h. A file
- * to begin with is examples/seven.c.
+ * to begin with is examples/seven.c, and for notices examples/notice.c.
  */
 
 #ifndef LINE_H
@@ -33,7 +35,7 @@ typedef enum {
     SILENT,     /* puts out nothing at all */
     LIES,       /* tells each board something else: damaged, borrowed and made-up records */
     GARBLES,    /* sends fragments that are those of no block, under one tree */
-    SPLITS      /* sends the file to some boards and another one to the others */
+    SPLITS      /* sends the file or notice to some boards and another one to the others */
 } behaviour;
 
 typedef struct {
@@ -41,6 +43,7 @@ typedef struct {
     uint64_t poll;                      /* from one look into a mailbox to the next; 0 without mailboxes */
     uint64_t seed;
     const char *name, *picture;
+    bool notice;                        /* what is spread is a notice; else a file */
     uint8_t file[LONGEST + 1];
     size_t file_len;
     behaviour behaves[BOARDS];
@@ -50,7 +53,7 @@ typedef struct {
 typedef struct {
     uint8_t *state, *delivered;
     size_t state_len, length;
-    unsigned heard[4], refused;         /* accepted records by kind, and refused ones */
+    unsigned heard[4], refused;         /* accepted records by sort, and refused ones */
     unsigned steps;                     /* records handed over to this board, */
     unsigned taken_step, delivered_step;        /* and on the line until it last took one, and until it delivered */
     uint32_t delivery;
@@ -91,6 +94,16 @@ void must_not_be_refused(const char *what, uint32_t number);
 void note_answer(letter *which, uint32_t number);
 void deliver(board *one, uint32_t delivery, size_t length, const uint8_t *bytes);
 void put_out_to_all(uint32_t from, const uint8_t *out, size_t len);
+
+/* calls.c; a sort is TUMBELIKO_SEND, _ECHO or _VOTE, whatever the broadcast's kinds are, 0 for no record of it */
+uint32_t sort_of(const uint8_t *bytes, size_t len);
+uint8_t kind_of(uint32_t sort);
+const char *what_is_spread(void);
+size_t state_bytes(void);
+uint32_t start_board(uint32_t own, uint8_t *state, size_t state_len);
+tumbeliko_sized send_record(const uint8_t *bytes, size_t len, uint32_t to, uint8_t *out, size_t out_len);
+tumbeliko_stepped step_board(board *one, const letter *which, uint8_t *out, size_t out_len,
+                             uint8_t *delivery, size_t delivery_len);
 
 /* mail.c */
 void drop_into_mailbox(const letter *which);

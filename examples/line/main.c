@@ -14,11 +14,12 @@ static const char built_in[] =
 static void help(const char *program)
 {
     printf("usage: %s [-n BOARDS] [-t FAULTY] [--breaks LIST] [--loss PERCENT]\n"
-           "       [--poll MS] [--seed NUMBER] [--picture FILE.svg] [FILE]\n\n"
-           "Board 1 spreads FILE (or a built-in text) to all boards. Records are lost and\n"
-           "put out again, repeated, and handed over in any order, and some boards break\n"
-           "the rules. Shows what each board heard, put out and delivered, counts records\n"
-           "and bytes, and says whether the promises held: exit status 1 if one did not.\n\n"
+           "       [--poll MS] [--seed NUMBER] [--picture FILE.svg] [FILE | --notice TEXT]\n\n"
+           "Board 1 spreads FILE (or a built-in text), or the notice TEXT, to all boards.\n"
+           "Records are lost and put out again, repeated, and handed over in any order, and\n"
+           "some boards break the rules. Shows what each board heard, put out and delivered,\n"
+           "counts records and bytes, and says whether the promises held: exit status 1 if\n"
+           "one did not.\n\n"
            "  -n BOARDS       how many boards, 1 to 64; 7 if not given\n"
            "  -t FAULTY       how many of them may break the rules, 3t < n; as many as\n"
            "                  possible if not given\n"
@@ -29,7 +30,7 @@ static void help(const char *program)
            "                    silent   puts out nothing\n"
            "                    lies     tells each board something else\n"
            "                    garbles  (board 1) sends fragments of no block\n"
-           "                    splits   (board 1) sends two different files\n"
+           "                    splits   (board 1) sends two different files or notices\n"
            "  --loss PERCENT  how many records in 100 are lost, 0 to 90; 10 if not given\n"
            "  --poll MS       records wait in a mailbox, and each board empties its own every\n"
            "                  MS milliseconds, 1 to 1000, by one call; if not given, each\n"
@@ -37,6 +38,9 @@ static void help(const char *program)
            "  --seed NUMBER   the same run for the same number\n"
            "  --picture FILE  draws the run as SVG, for a browser\n"
            "  --file FILE     the same as FILE: at most 16,384 bytes\n"
+           "  --notice TEXT   spreads this text, whole in every record and without a tree: 0 to\n"
+           "                  64 bytes. Notices have no mailbox and no fragments: neither\n"
+           "                  --poll nor garbles goes with it\n"
            "  --help          this text\n", program);
 }
 
@@ -73,6 +77,8 @@ static int break_one(const char *word)
         how++;
     if (how > SPLITS)
         return complain("no such way to break the rules", word);
+    if (how == GARBLES && play.notice)
+        return complain("a notice has no fragments to garble", word);
     if (how > LIES && board != SENDER)
         return complain("only the sender, board 1, can do that", word);
     if (play.behaves[board - 1] != KEEPS)
@@ -105,7 +111,7 @@ static int break_all(const char *list)
 /* ---- the other options */
 
 enum { N, T, LOSS, POLL, SEED, NUMBERS };
-enum { BREAKS, PICTURE, FILE_NAME, WORDS };
+enum { BREAKS, PICTURE, FILE_NAME, NOTICE, WORDS };
 
 static long numbers[NUMBERS] = { 7, -1, 10, -1, -1 };
 static const char *words[WORDS];
@@ -123,7 +129,7 @@ static int find(const char *const *names, int count, const char *name)
 static int take_option(const char *name, const char *value)
 {
     static const char *const with_number[] = { "-n", "-t", "--loss", "--poll", "--seed" };
-    static const char *const with_word[] = { "--breaks", "--picture", "--file" };
+    static const char *const with_word[] = { "--breaks", "--picture", "--file", "--notice" };
     int number = find(with_number, NUMBERS, name), word = find(with_word, WORDS, name);
 
     if (name[0] != '-')
@@ -157,6 +163,26 @@ static int read_file(const char *name)
     return play.file_len <= LONGEST ? 0 : complain("longer than 16,384 bytes", name);
 }
 
+/* What is spread: a notice, a file, or the built-in text. */
+static int set_message(void)
+{
+    play.notice = words[NOTICE] != NULL;
+    play.name = words[FILE_NAME] != NULL ? words[FILE_NAME] : play.notice ? "a notice" : "a built-in text";
+    if (!play.notice) {
+        memcpy(play.file, built_in, play.file_len = sizeof built_in - 1);
+        return words[FILE_NAME] != NULL ? read_file(words[FILE_NAME]) : 0;
+    }
+    if (words[FILE_NAME] != NULL)
+        return complain("a notice or a file, not both", words[FILE_NAME]);
+    if (play.poll > 0)
+        return complain("notices have no mailbox: --poll does not go with --notice", "");
+    play.file_len = strlen(words[NOTICE]);
+    if (play.file_len > TUMBELIKO_NOTICE_MAX)
+        return complain("a notice has at most 64 bytes", words[NOTICE]);
+    memcpy(play.file, words[NOTICE], play.file_len);
+    return 0;
+}
+
 static int set_up(void)
 {
     if (numbers[N] < 1 || numbers[N] > BOARDS)
@@ -175,9 +201,7 @@ static int set_up(void)
     play.poll = numbers[POLL] < 0 ? 0 : (uint64_t)numbers[POLL] * 1000;
     play.seed = (uint64_t)(numbers[SEED] >= 0 ? numbers[SEED] : (long)(time(NULL) % 1000000));
     play.picture = words[PICTURE];
-    play.name = words[FILE_NAME] != NULL ? words[FILE_NAME] : "a built-in text";
-    memcpy(play.file, built_in, play.file_len = sizeof built_in - 1);
-    if (words[FILE_NAME] != NULL && read_file(words[FILE_NAME]) != 0)
+    if (set_message() != 0)
         return 2;
     return break_all(words[BREAKS] != NULL ? words[BREAKS] : play.t == 0 ? "none" : play.t == 1 ? "1:fails"
                      : "1:fails,4:lies");

@@ -11,7 +11,18 @@ static const char *kind_class(const letter *one)
 
     if (play.behaves[one->from - 1] >= LIES)
         return "l";
-    return classes[one->bytes[0] & 3];
+    return classes[sort_of(one->bytes, one->len)];
+}
+
+static void tell_notice(const letter *one)
+{
+    tumbeliko_notice read = tumbeliko_read_notice(one->bytes, one->len);
+
+    if (read.number != TUMBELIKO_OK)
+        return;
+    fprintf(to, "notice \"");
+    write_text(one->bytes + TUMBELIKO_RECORD_NOTICE, read.length);
+    fprintf(to, "\", ");
 }
 
 static void tell_record(const letter *one)
@@ -20,8 +31,10 @@ static void tell_record(const letter *one)
     static const char *const ends[] = { "on its way", "accepted", "refused", "lost", "not taken through a step" };
 
     fprintf(to, "<title>%s from board %u to board %u, %zu bytes, ",
-            kinds[one->len > 0 && one->bytes[0] < 4 ? one->bytes[0] : 0], one->from, one->to, one->len);
-    if (one->len >= TUMBELIKO_RECORD_PATH)
+            kinds[sort_of(one->bytes, one->len)], one->from, one->to, one->len);
+    if (play.notice)
+        tell_notice(one);
+    else if (one->len >= TUMBELIKO_RECORD_PATH)
         fprintf(to, "root %02x%02x.., ", one->bytes[TUMBELIKO_RECORD_ROOT], one->bytes[TUMBELIKO_RECORD_ROOT + 1]);
     fprintf(to, "%s", ends[one->fate]);
     if (one->fate == REFUSED)
@@ -108,8 +121,7 @@ void draw_marks(uint32_t own)
     if (one->delivered_at != NEVER) {
         bool is_void = one->delivery == TUMBELIKO_DELIVERY_VOID;
 
-        fprintf(to, "<g><title>board %u delivers %s at step %u</title>\n", own,
-                is_void ? "void" : same_as_file(one) ? "the file" : "another file", one->delivered_step);
+        fprintf(to, "<g><title>board %u delivers %s at step %u</title>\n", own, outcome_name(one), one->delivered_step);
         draw_delivery(x_of(one->delivered_at), y, is_void, size);
         fprintf(to, "</g>\n");
         draw_word(is_void ? "delivers void" : "delivers", x_of(one->delivered_at), y + 25);
@@ -139,11 +151,13 @@ void draw_legend(double y)
     draw_echo(264, y);
     draw_vote(264, y + 22);
     draw_delivery(264, y + 44, false, 8);
-    draw_delivery(264, y + 66, true, 8);
-    draw_stop(264, y + 88);
+    if (!play.notice)
+        draw_delivery(264, y + 66, true, 8);
+    draw_stop(264, y + (play.notice ? 66 : 88));
     fprintf(to, "<text class=\"small\"><tspan x=\"284\" y=\"%.1f\">puts out its echo</tspan>"
-            "<tspan x=\"284\" dy=\"22\">votes</tspan><tspan x=\"284\" dy=\"22\">delivers a file</tspan>"
-            "<tspan x=\"284\" dy=\"22\">delivers void</tspan><tspan x=\"284\" dy=\"22\">stops for good</tspan></text>\n", y + 4);
+            "<tspan x=\"284\" dy=\"22\">votes</tspan><tspan x=\"284\" dy=\"22\">delivers a %s</tspan>%s"
+            "<tspan x=\"284\" dy=\"22\">stops for good</tspan></text>\n", y + 4, what_is_spread(),
+            play.notice ? "" : "<tspan x=\"284\" dy=\"22\">delivers void</tspan>");
     fprintf(to, "<text class=\"small\" x=\"24\" y=\"%.1f\">Arrows that end in a cross: lost on the way. Very pale ones: "
             "to a board that lies, is silent or has stopped.</text>\n", y + 118);
 }

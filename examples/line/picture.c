@@ -34,15 +34,24 @@ bool roomy(void)
 }
 
 /* Text for XML: what is not plain ASCII becomes a question mark. */
-static void write_name(const char *name)
+void write_text(const uint8_t *bytes, size_t len)
 {
-    for (; *name != 0; name++)
-        switch (*name) {
+    for (size_t i = 0; i < len; i++)
+        switch (bytes[i]) {
         case '&':   fputs("&amp;", to); break;
         case '<':   fputs("&lt;", to); break;
         case '>':   fputs("&gt;", to); break;
-        default:    fputc(*name >= ' ' && *name <= '~' ? *name : '?', to);
+        default:    fputc(bytes[i] >= ' ' && bytes[i] <= '~' ? bytes[i] : '?', to);
         }
+}
+
+const char *outcome_name(const board *one)
+{
+    if (one->delivery == TUMBELIKO_DELIVERY_VOID)
+        return "void";
+    if (play.notice)
+        return same_as_file(one) ? "the notice" : "another notice";
+    return same_as_file(one) ? "the file" : "another file";
 }
 
 /* ---- the frame */
@@ -80,13 +89,15 @@ static void draw_head(const char *id, const char *colour)
 static void draw_title(void)
 {
     static const char *const deeds[] = {
-        "", "fails halfway", "is silent", "lies", "sends fragments of no block", "sends two different files"
+        "", "fails halfway", "is silent", "lies", "sends fragments of no block", "sends two different ones"
     };
     bool first = true;
 
     fprintf(to, "<text class=\"title\" x=\"24\" y=\"38\">");
-    write_name(play.name);
-    fprintf(to, ", from board %d to %u boards</text>\n", SENDER, play.n);
+    if (play.notice)
+        fprintf(to, "the notice \"");
+    write_text(play.notice ? play.file : (const uint8_t *)play.name, play.notice ? play.file_len : strlen(play.name));
+    fprintf(to, "%s, from board %d to %u boards</text>\n", play.notice ? "\"" : "", SENDER, play.n);
     fprintf(to, "<text x=\"24\" y=\"62\">%zu bytes; at most %u of the boards break the rules", play.file_len, play.t);
     for (uint32_t own = 1; own <= play.n; own++)
         if (!keeps(own)) {
@@ -155,7 +166,7 @@ static void draw_outcome(uint32_t own, double x, double y)
 
     if (one->delivery == TUMBELIKO_DELIVERY_MESSAGE)
         fprintf(to, "<text x=\"%.1f\" y=\"%.1f\" font-weight=\"bold\" style=\"fill:#1d7a3c\">%s</text>\n", x, y + 4,
-                same_as_file(one) ? "the file" : "another file");
+                outcome_name(one));
     else if (one->delivery == TUMBELIKO_DELIVERY_VOID)
         fprintf(to, "<text x=\"%.1f\" y=\"%.1f\" font-weight=\"bold\" style=\"fill:#b5690b\">void</text>\n", x, y + 4);
     else if (play.behaves[own - 1] <= FAILS)
@@ -230,7 +241,7 @@ static void draw_all(uint64_t end)
 
     /* without a width of its own a browser fits it into the window */
     fprintf(to, "<svg xmlns=\"http://www.w3.org/2000/svg\" viewBox=\"0 0 %.0f %.0f\">\n"
-            "<title>%u boards spread a file</title>\n%s<defs>\n", wide, high, play.n, style);
+            "<title>%u boards spread a %s</title>\n%s<defs>\n", wide, high, play.n, what_is_spread(), style);
     draw_head("s", "#1f6fc4");
     draw_head("e", "#12927f");
     draw_head("v", "#8a45c2");

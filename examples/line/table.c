@@ -19,6 +19,8 @@ static const char *delivered_name(const board *one)
         return "nothing";
     if (one->delivery == TUMBELIKO_DELIVERY_VOID)
         return "void";
+    if (play.notice)
+        return same_as_file(one) ? "the notice" : "another notice";
     return same_as_file(one) ? "the file" : "another file";
 }
 
@@ -39,7 +41,7 @@ static void show_board(uint32_t own)
     if (one->delivery == TUMBELIKO_DELIVERY_NONE)
         printf("%s\n", delivered_name(one));
     else
-        printf("%-12s  %7u\n", delivered_name(one), one->delivered_step);
+        printf("%-14s%7u\n", delivered_name(one), one->delivered_step);
 }
 
 static void show_figures(void)
@@ -58,7 +60,9 @@ static void show_figures(void)
     printf("  handed over    %u records: %u accepted", seen.handed, seen.answers[0]);
     for (int number = 1; number < TUMBELIKO_NUMBERS; number++)
         if (seen.answers[number] > 0)
-            printf(", %u %s", seen.answers[number], meanings[number] != NULL ? meanings[number] : "refused");
+            printf(", %u %s", seen.answers[number],
+                   play.notice && number == TUMBELIKO_BAD_NOTICE_COUNT ? "with a wrong notice count"
+                   : meanings[number] != NULL ? meanings[number] : "refused");
     if (play.poll > 0)
         printf("\n  mailboxes      %u calls instead of %u: %u saved", seen.calls, seen.handed, seen.handed - seen.calls);
     printf("\n  on the way     %u lost, %u repeated\n", seen.lost, seen.repeated);
@@ -70,10 +74,23 @@ static void show_figures(void)
         printf("                 %lu records, %lu bytes by the others\n", seen.other_records, seen.other_bytes);
 }
 
+/* A file by its name, a notice by its text, in which control characters become question marks. */
+static void show_name(void)
+{
+    if (!play.notice) {
+        printf("%s", play.name);
+        return;
+    }
+    printf("the notice \"");
+    for (size_t i = 0; i < play.file_len; i++)
+        putchar(play.file[i] < ' ' || play.file[i] == 0x7f ? '?' : play.file[i]);
+    printf("\"");
+}
+
 void show_table(void)
 {
-    printf("%s, %zu bytes, from board %d to %u boards, of which %u may break the rules\n", play.name, play.file_len,
-           SENDER, play.n, play.t);
+    show_name();
+    printf(", %zu bytes, from board %d to %u boards, of which %u may break the rules\n", play.file_len, SENDER, play.n, play.t);
     printf("seed %llu; of 100 records %u are lost", (unsigned long long)play.seed, play.loss);
     if (play.poll > 0)
         printf("; each board empties its mailbox every %u ms", (unsigned)(play.poll / 1000));
@@ -130,7 +147,8 @@ bool show_promises(void)
 
     show_promise("agreement", "no two boards that keep the rules delivered differently", held.agreement);
     if (keeps(SENDER))
-        show_promise("validity", "none of them delivered anything but the sender's file", held.validity);
+        show_promise("validity", play.notice ? "none of them delivered anything but the sender's notice"
+                                             : "none of them delivered anything but the sender's file", held.validity);
     else
         printf("  %-12s%s\n", "validity", "the sender breaks the rules: nothing to keep");
     show_promise("totality", keeps(SENDER) ? "all of them delivered" : "all of them delivered, or none did", held.totality);
