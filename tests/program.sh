@@ -71,6 +71,10 @@ sample 0 send
 sample 0 echo
 sample 0 vote
 sample 0 send-six
+sample 0 notice-send
+sample 0 notice-echo
+sample 0 notice-vote
+sample 0 notice-odd
 
 sample 1 cut-nothing
 sample 1 cut-root-count
@@ -80,7 +84,7 @@ sample 1 cut-path
 sample 1 cut-fragment-count
 sample 1 cut-fragment
 sample 1 kind-0
-sample 1 kind-4
+sample 1 kind-7
 sample 1 kind-255
 sample 1 root-31
 sample 1 root-swapped
@@ -92,11 +96,21 @@ sample 1 fragment-16389
 sample 1 fragment-of-vote
 sample 1 left-one
 sample 1 left-many
+sample 1 notice-cut-count
+sample 1 notice-cut-before
+sample 1 notice-cut-inside
+sample 1 notice-65
+sample 1 notice-65-alone
+sample 1 notice-swapped
+sample 1 notice-left-one
+sample 1 notice-left-many
 
 cd "$room"
 shows 0 send-six-all record --all send-six.hex
 shows 1 cut-path-all record --all cut-path.hex
 shows 1 left-many-all record --all left-many.hex
+shows 0 notice-echo record --all notice-echo.hex
+shows 1 notice-left-many-all record --all notice-left-many.hex
 
 # The longest record: six nodes, 16,388 bytes of fragment.
 {
@@ -111,7 +125,7 @@ shows 1 left-many-all record --all left-many.hex
 shows 0 longest record longest
 
 # All cuts of a record, in one call: the first line of each.
-for kind in send echo vote; do
+for kind in send echo vote notice-send; do
     mkdir "cuts-of-$kind"
     cd "cuts-of-$kind"
     length=$(wc -c < "../$kind.hex")
@@ -194,7 +208,7 @@ begins() {
 }
 
 # Text that is read as bytes, and a byte that is no text.
-refused='text: refused with 21 at byte 0: a kind of 48; 1 is a send, 2 is an echo, 3 is a vote'
+refused="text: refused with 21 at byte 0: a kind of 48; 1 is a send, 2 is an echo, 3 is a vote, 4 is a notice's send, 5 is a notice's echo, 6 is a notice's vote"
 cp "$samples/vote.hex" text
 begins 1 "$refused (if the file is hex, --hex reads it)" record text
 echo 30 > text
