@@ -670,7 +670,8 @@ tumbeliko_sized tumbeliko_send(uint32_t n, uint32_t t, uint32_t sender, uint32_t
  * - the first echo and the first vote of each board count;
  * - n - t echoes or t + 1 votes for one notice bring a vote for it;
  * - n - t votes for one notice, once the board has voted, deliver it.
- * Two notices are one only if lengths and bytes are the same.
+ * Two notices are one only if lengths and bytes are the same. There is no
+ * mailbox for notices: their records are taken one by one.
  */
 #define TUMBELIKO_RECORD_NOTICE_COUNT   1
 #define TUMBELIKO_RECORD_NOTICE         3
