@@ -30,11 +30,12 @@ void try_read_notice(void)
 #endif
 }
 
-/* Mostly one that a call takes. */
+/* Mostly one that a call takes, often one at a limit. */
 static size_t draw_notice(uint8_t *notice, size_t most)
 {
     uint8_t drawn = draw_byte();
-    size_t len = drawn < 200 ? drawn % (REF_NOTICE + 1u) : drawn < 250 ? REF_NOTICE + drawn % 3u : random_below((uint32_t)most);
+    size_t len = drawn < 160 ? drawn % (REF_NOTICE + 1u) : drawn < 190 ? 0 : drawn < 250 ? REF_NOTICE + drawn % 3u
+                 : random_below((uint32_t)most);
 
     random_bytes(notice, len);
     return len;
@@ -64,7 +65,7 @@ void try_notice_send(void)
 {
     static uint8_t notice[1000];
     ref_table b = draw_table();
-    uint32_t to = draw_byte() < 220 ? 1 + random_below(b.n) : draw_number();
+    uint32_t to = draw_byte() < 160 ? 1 + random_below(b.n) : draw_number();
     size_t len = draw_notice(notice, sizeof notice), out_len = draw_length(REF_NOTICE_OUT);
     ref_sized right;
 
@@ -182,6 +183,11 @@ static size_t draw_told(void)
     len = ref_write_notice(SEND + drawn % 3u, tales[tale].bytes, tales[tale].len, record, REF_NOTICE_OUT).length;
     if (drawn > 225 && drawn < 235)
         record[random_below(3)] = draw_byte();
+    if (drawn > 245) {                  /* a notice of 64 to 67 bytes */
+        record[2] = (uint8_t)(REF_NOTICE + draw_byte() % 4);
+        memset(record + len, draw_byte(), 100);
+        return 3 + (size_t)record[2];
+    }
     return drawn > 225 ? damage(record, len, 200) : len;
 }
 
@@ -202,13 +208,16 @@ static void one_step(uint32_t turn)
 
 static bool start_drawn(void)
 {
+    static uint8_t room[100];
     ref_table b = draw_good_table();
     uint32_t own = 1 + random_below(b.n);
 
     b.longest = 0;
     state_len = REF_NOTICE_STATE + draw_byte() % 3u;
-    for (int i = 0; i < TALES; i++)
-        tales[i].len = draw_notice(tales[i].bytes, REF_NOTICE) % (REF_NOTICE + 1);
+    for (int i = 0; i < TALES; i++) {
+        tales[i].len = draw_notice(room, sizeof room) % (REF_NOTICE + 1);
+        memcpy(tales[i].bytes, room, REF_NOTICE);
+    }
     memcpy(tales[1].bytes, tales[0].bytes, REF_NOTICE);
     if (draw_byte() % 2) {
         tales[1].len = tales[0].len;
@@ -253,14 +262,19 @@ static void write_state(void)
     write_words(15, 4192, board.vote);
 }
 
-/* Often a flag, the table, where the sets have the lowest boards, or a length. */
+/* Often a flag, the table, where the sets have the lowest boards, a length, or a byte of the lowest boards' rooms. */
 static size_t draw_place(void)
 {
-    switch (draw_byte() % 5) {
-    case 0:     return random_below(7);
-    case 1:     return 14 + 8 * (size_t)random_below(2);
-    case 2:     return 7 + (size_t)random_below(16);
-    case 3:     return 32 + 65 * (size_t)random_below(128);
+    size_t low = 65 * (size_t)random_below(8) + 32 + (draw_byte() % 2 ? 4160 : 0);
+
+    switch (draw_byte() % 8) {
+    case 0:     return random_below(4);
+    case 1:
+    case 2:     return 4 + (size_t)random_below(3);
+    case 3:     return 14 + 8 * (size_t)random_below(2);
+    case 4:     return 7 + (size_t)random_below(16);
+    case 5:     return draw_byte() % 2 ? low : 32 + 65 * (size_t)random_below(128);
+    case 6:     return low + 1 + random_below(64);
     default:    return random_below(REF_NOTICE_STATE);
     }
 }
