@@ -89,7 +89,7 @@ static void draw_head(const char *id, const char *colour)
 static void draw_title(void)
 {
     static const char *const deeds[] = {
-        "", "fails halfway", "is silent", "lies", "sends fragments of no block", "sends two different ones"
+        "", "fails halfway", "is silent", "lies", "sends fragments of no block", "sends two different "
     };
     bool first = true;
 
@@ -103,6 +103,8 @@ static void draw_title(void)
         if (!keeps(own)) {
             fprintf(to, "%s board %u%s %s", first ? ":" : ",", own, own == SENDER ? ", the sender," : "",
                     deeds[play.behaves[own - 1]]);
+            if (play.behaves[own - 1] == SPLITS)
+                fprintf(to, "%ss", what_is_spread());
             first = false;
         }
     fprintf(to, "%s</text>\n", first ? ", none does" : "");
