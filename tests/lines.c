@@ -370,6 +370,7 @@ static void send_lost_again(void)
 static void start_all(void)
 {
     for (uint32_t i = 1; i <= b.n; i++) {
+        uint8_t beyond[BEYOND];
         member *m = &line[i - 1];
 
         m->needed = cast->state_bytes();
@@ -377,7 +378,9 @@ static void start_all(void)
         m->put_out = m->outcome = m->length = 0;
         if (steps % 8 == 0)
             random_bytes(m->state, m->needed + BEYOND);         /* else over what the last run left */
+        memcpy(beyond, m->state + m->needed, BEYOND);
         CHECK(held(cast->start(i, m->state, m->len) == 0));
+        CHECK(held(memcmp(beyond, m->state + m->needed, BEYOND) == 0));
     }
 }
 
