@@ -7,7 +7,7 @@ use lib.Dec.{leb, eqb}
 use lib.Bits.{bitOr}
 use lib.Count.{ones}
 use Rattle.octets.specs.Bytes.{pick, eightAt, part, eight}
-use Rattle.octets.specs.Sets.{bit, has}
+use Rattle.octets.specs.Sets.{bit}
 use Rattle.table.specs.Table.{mostOf, someOf}
 use Rattle.table.specs.declared.Table.{Table}
 use Rattle.state.specs.State.{flag}

@@ -8,7 +8,6 @@ use lib.Dec.{eqb}
 use Rattle.octets.specs.Bytes.{pick, put}
 use Rattle.board.specs.declared.Plan.{Plan}
 use Rattle.board.specs.declared.Plan.the-variants.{Refuse, Take}
-use Rattle.deliver.specs.Delivered.{Left, leftBy}
 use Rattle.board_step.specs.Step.{Outcome, outcome, stepped, refused, delivered}
 use Rattle.notice.specs.Form.{noticeRecord, noticeIn}
 use Rattle.notice.specs.State.{heardAt, placeAt, noticeTable, heardIn, heardBytes, noticeKept, hearing, noticeDue, noticeWon, noticeSettled}
