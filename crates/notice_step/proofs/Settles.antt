@@ -32,7 +32,8 @@ use Rattle.notice_step.proofs.Leaves.{kept-length, heardAfter, leaves-h
 use Rattle.notice_step.proofs.Stays.{after-sounds}
 
 -- a vote is put out if the board has voted and had not
-says : (send voted due : Bool) (a b : List ℕ) → pick send a (pick (not voted && (voted || (not send && due))) b []) ≡ pick send a (pick (not voted && due) b [])
+says : (send voted due : Bool) (a b : List ℕ)
+    → pick send a (pick (not voted && (voted || (not send && due))) b []) ≡ pick send a (pick (not voted && due) b [])
 unfolding pick
 says true voted due a b = refl
 says false true due a b = refl

@@ -70,8 +70,9 @@ both-requires c κs = search needs
 
 put-out-requires : tie.Need-put-out-requires
 put-out-requires c κs =
-    let args = c .before .before .before .before .before .before .before .before .before .before .before .before .before .before .before .before .before .before .before .before .before .args in
-    let pre = c .before .before .before .before .before .before .before .before .before .before .before .before .before .before .before .before .before .before .before .before .before .pre in
+    let start = c .before .before .before .before .before .before .before .before .before .before .before .before .before .before .before .before .before .before .before .before .before in
+    let args = start .args in
+    let pre = start .pre in
     let t = notice-taken (args .s .now) (args .from) (args .r .now) (args .out .now) (pre .0) (args .kind) (pre .1 .0) (args .len) (pre .1 .1) in
     let q = taken-compares t in
     (t .out, q .most, q .room)
@@ -84,18 +85,23 @@ same-length-2 c = search needs
 
 returns : tie.Need-returns
 returns c =
-    let args = c .before .before .before .before .before .before .before .before .before .before .before .before .before .before .before .before .before .before .before .before .before .before .before .before .args in
-    let pre = c .before .before .before .before .before .before .before .before .before .before .before .before .before .before .before .before .before .before .before .before .before .before .before .before .pre in
-    let read-table = c .before .before .before .before .before .before .before .before .before .before .before .before .before .before .before .before .before .before .before .read-table in
-    let read-heard = c .before .before .before .before .before .before .before .before .before .before .before .before .before .before .before .before .before .read-heard in
-    let hear = c .before .before .before .before .before .before .before .before .before .before .before .before .before .before .before .before .hear in
-    let keep-notice = c .before .before .before .before .before .before .before .before .before .before .before .before .before .before .keep-notice in
+    let kept = c .before .before .before .before .before .before .before .before .before .before .before .before .before .before in
+    let start = kept .before .before .before .before .before .before .before .before .before .before in
+    let args = start .args in
+    let pre = start .pre in
+    let read-table = kept .before .before .before .before .before .read-table in
+    let read-heard = kept .before .before .before .read-heard in
+    let hear = kept .before .before .hear in
+    let keep-notice = kept .keep-notice in
     let settle = c .before .before .before .before .before .before .before .before .before .before .settle in
     let write-heard = c .before .before .before .before .before .before .before .before .write-heard in
     let both = c .before .before .before .both in
     let put-out = c .before .before .put-out in
     let t = notice-taken (args .s .now) (args .from) (args .r .now) (args .out .now) (pre .0) (args .kind) (pre .1 .0) (args .len) (pre .1 .1) in
-    takes-in t (settle .result) (keep-notice .last .0) (write-heard .last .0) (put-out .last .0) (put-out .result) (keep-notice .ensures) (rw (← read-table .ensures, ← read-heard .ensures, ← hear .ensures) (settle .ensures)) (write-heard .ensures) (rw (← read-heard .ensures, ← hear .ensures, ← both .ensures) (put-out .ensures .0)) (rw (← read-heard .ensures, ← hear .ensures, ← both .ensures) (put-out .ensures .1))
+    takes-in t (settle .result) (keep-notice .last .0) (write-heard .last .0) (put-out .last .0) (put-out .result) (keep-notice .ensures)
+    (rw (← read-table .ensures, ← read-heard .ensures, ← hear .ensures) (settle .ensures)) (write-heard .ensures)
+    (rw (← read-heard .ensures, ← hear .ensures, ← both .ensures) (put-out .ensures .0))
+    (rw (← read-heard .ensures, ← hear .ensures, ← both .ensures) (put-out .ensures .1))
 
 pub take-in-spec : {M : Type 1} → statement M
 take-in-spec =

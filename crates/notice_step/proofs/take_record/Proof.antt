@@ -39,7 +39,8 @@ returns c =
     let is-done = c .before .before .is-done in
     let t = notice-taken (args .s .now) (args .from) (args .r .now) (args .out .now) (args .delivery .now) (args .kind) (pre .0) (args .len) (pre .1) in
     rw (c .answered .ensures)
-    (takes-quietly t (take-in .last .0) (take-in .last .1 .1 .1 .0) (take-in .result) (take-in .ensures .0) (take-in .ensures .1) (take-in .ensures .2) (sym (is-done .ensures) ∙ not-true (is-done .result) (c .before .if1 .taken)))
+    (takes-quietly t (take-in .last .0) (take-in .last .1 .1 .1 .0) (take-in .result) (take-in .ensures .0) (take-in .ensures .1) (take-in .ensures .2)
+    (sym (is-done .ensures) ∙ not-true (is-done .result) (c .before .if1 .taken)))
 
 copy-part-requires : tie.Need-copy-part-requires
 copy-part-requires c κs =
@@ -51,8 +52,9 @@ copy-part-requires c κs =
 
 cast-answered : tie.Need-cast-answered
 cast-answered c =
-    let args = c .before .before .before .before .before .before .before .before .before .before .before .before .before .before .before .before .before .before .args in
-    let pre = c .before .before .before .before .before .before .before .before .before .before .before .before .before .before .before .before .before .before .pre in
+    let start = c .before .before .before .before .before .before .before .before .before .before .before .before .before .before .before .before .before .before in
+    let args = start .args in
+    let pre = start .pre in
     let t = notice-taken (args .s .now) (args .from) (args .r .now) (args .out .now) (args .delivery .now) (args .kind) (pre .0) (args .len) (pre .1) in
     let q = taken-compares t in
     omega (arith, q .most)
@@ -71,15 +73,17 @@ same-length-5 c = search needs
 
 returns-2 : tie.Need-returns-2
 returns-2 c =
-    let args = c .before .before .before .before .before .before .before .before .before .before .before .before .before .before .before .before .before .before .before .args in
-    let pre = c .before .before .before .before .before .before .before .before .before .before .before .before .before .before .before .before .before .before .before .pre in
+    let start = c .before .before .before .before .before .before .before .before .before .before .before .before .before .before .before .before .before .before .before in
+    let args = start .args in
+    let pre = start .pre in
     let take-in = c .before .before .before .before .before .before .before .before .before .before .before .before .take-in in
     let is-done = c .before .before .before .before .before .before .is-done in
     let if1 = c .before .before .before .before .before .if1 in
     let copy-part = c .before .before .before .copy-part in
     let t = notice-taken (args .s .now) (args .from) (args .r .now) (args .out .now) (args .delivery .now) (args .kind) (pre .0) (args .len) (pre .1) in
     rw (c .answered2 .ensures)
-    (takes-delivering t (take-in .last .0) (take-in .last .1 .1 .1 .0) (take-in .result) (take-in .ensures .0) (take-in .ensures .1) (take-in .ensures .2) (copy-part .last .0) (sym (is-done .ensures) ∙ not-false (is-done .result) (if1 .left)) (copy-part .ensures))
+    (takes-delivering t (take-in .last .0) (take-in .last .1 .1 .1 .0) (take-in .result) (take-in .ensures .0) (take-in .ensures .1) (take-in .ensures .2)
+    (copy-part .last .0) (sym (is-done .ensures) ∙ not-false (is-done .result) (if1 .left)) (copy-part .ensures))
 
 pub take-record-spec : {M : Type 1} → statement M
 take-record-spec =
