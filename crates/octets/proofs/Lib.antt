@@ -3,6 +3,7 @@ pub mod Laws
 pub mod Parts
 pub mod Frame
 pub mod Sames
+pub mod Eights
 pub mod Picks
 pub mod Below
 pub mod Walk

@@ -80,8 +80,16 @@ pub fn copy_at(dst: &mut [u8], at: usize, src: &[u8])
     }
 }
 
-// Whether the n bytes of `s` from a on are those of `r` from b on.
-pub fn same_at(s: &[u8], a: usize, r: &[u8], b: usize, n: usize) -> bool
+// Whether the eight bytes of `s` from a on are those of `r` from b on: by fours, since four bytes are read at once and eight are not.
+fn same_eight(s: &[u8], a: usize, r: &[u8], b: usize) -> bool
+    requires { ⌜ (a + 8 ≤ length (now s)) × (b + 8 ≤ length (now r)) ⌝ }
+    ensures { λ x. ⌜ x ≡ same (part a 8 (now (s .entry))) (part b 8 (now (r .entry))) ⌝ }
+{
+    four_at(s, a) == four_at(r, b) && four_at(s, a + 4) == four_at(r, b + 4)
+}
+
+// The n bytes of `s` from a on and those of `r` from b on, compared one by one.
+fn same_short(s: &[u8], a: usize, r: &[u8], b: usize, n: usize) -> bool
     requires { ⌜ (a + n ≤ length (now s)) × (b + n ≤ length (now r)) ⌝ }
     ensures { λ x. ⌜ x ≡ same (part a n (now (s .entry))) (part b n (now (r .entry))) ⌝ }
 {
@@ -93,6 +101,21 @@ pub fn same_at(s: &[u8], a: usize, r: &[u8], b: usize, n: usize) -> bool
         i += 1;
     }
     true
+}
+
+// Whether the n bytes of `s` from a on are those of `r` from b on: eight at a time, then the rest.
+pub fn same_at(s: &[u8], a: usize, r: &[u8], b: usize, n: usize) -> bool
+    requires { ⌜ (a + n ≤ length (now s)) × (b + n ≤ length (now r)) ⌝ }
+    ensures { λ x. ⌜ x ≡ same (part a n (now (s .entry))) (part b n (now (r .entry))) ⌝ }
+{
+    let mut i = 0;
+    while i + 8 <= n {
+        if !same_eight(s, a + i, r, b + i) {
+            return false;
+        }
+        i += 8;
+    }
+    same_short(s, a + i, r, b + i, n - i)
 }
 
 // n zeros put in.

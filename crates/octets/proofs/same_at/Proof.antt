@@ -2,8 +2,9 @@ use mathlib.Core.Path.{_≡_, _∙_, sym}
 use Prim.Native.Nat.{_+_, _≤_, _-_}
 use native.Mathlib.Omega.{arith}
 use native.Mathlib.Nat.{add-zero, sub-zero}
+use borrow.Author.Tests.{not-true, not-false}
 use Rattle.octets.specs.Bytes.{part, same}
-use Rattle.octets.proofs.Laws.{same-turn, same-differ, same-end}
+use Rattle.octets.proofs.Eights.{eights-turn, eights-differ}
 use Rattle.octets.proofs.same_at.Statement.{statement}
 use Rattle.octets.proofs.same_at.Tie as tie
 
@@ -16,20 +17,20 @@ abbrev μ-loop : tie.MeasureT-loop
 loop-holds : tie.Need-loop-holds Inv-loop μ-loop
 loop-holds c = (omega arith, simp (add-zero, sub-zero))
 
-add-if1 : tie.Need-add-if1 Inv-loop μ-loop
-add-if1 c = omega arith
+add-loop : tie.Need-add-loop Inv-loop μ-loop
+add-loop c = omega arith
 
-shared-slice-read-if1 : tie.Need-shared-slice-read-if1 Inv-loop μ-loop
-shared-slice-read-if1 c = omega arith
+add-same-eight : tie.Need-add-same-eight Inv-loop μ-loop
+add-same-eight c = omega arith
 
-add-if1-2 : tie.Need-add-if1-2 Inv-loop μ-loop
-add-if1-2 c = omega arith
+add-same-eight-2 : tie.Need-add-same-eight-2 Inv-loop μ-loop
+add-same-eight-2 c = omega arith
 
-shared-slice-read-if1-2 : tie.Need-shared-slice-read-if1-2 Inv-loop μ-loop
-shared-slice-read-if1-2 c = omega arith
+same-eight-requires : tie.Need-same-eight-requires Inv-loop μ-loop
+same-eight-requires c κs = (omega arith, omega arith)
 
 returns : tie.Need-returns Inv-loop μ-loop
-returns c = sym (same-differ _ _ _ _ _ _ (c .before .before .before .loop-test .taken) (c .before .before .before .before .before .pre .0) (c .before .before .before .before .before .pre .1) (c .if1 .taken)) ∙ c .before .before .before .before .loop .inv .1
+returns c = eights-differ _ _ _ _ _ _ (c .before .before .loop-test .taken) (c .before .before .before .before .before .before .pre .0) (c .before .before .before .before .before .before .pre .1) (sym (c .before .same-eight .ensures) ∙ not-true _ (c .if1 .taken)) ∙ c .before .before .before .loop .inv .1
 
 add-i : tie.Need-add-i Inv-loop μ-loop
 add-i c = omega arith
@@ -38,12 +39,24 @@ loop-less : tie.Need-loop-less Inv-loop μ-loop
 loop-less c = omega arith
 
 loop-again : tie.Need-loop-again Inv-loop μ-loop
-loop-again c = (omega arith, sym (same-turn _ _ _ _ _ _ (c .before .before .before .loop-test .taken) (c .before .before .before .before .before .pre .0) (c .before .before .before .before .before .pre .1) (c .if1 .left)) ∙ c .before .before .before .before .loop .inv .1)
+loop-again c = (omega arith, eights-turn _ _ _ _ _ _ (c .before .before .loop-test .taken) (c .before .before .before .before .before .before .pre .0) (c .before .before .before .before .before .before .pre .1) (sym (c .before .same-eight .ensures) ∙ not-false _ (c .if1 .left)) ∙ c .before .before .before .loop .inv .1)
+
+add-same-short : tie.Need-add-same-short Inv-loop μ-loop
+add-same-short c = omega arith
+
+add-same-short-2 : tie.Need-add-same-short-2 Inv-loop μ-loop
+add-same-short-2 c = omega arith
+
+sub-same-short : tie.Need-sub-same-short Inv-loop μ-loop
+sub-same-short c = omega arith
+
+same-short-requires : tie.Need-same-short-requires Inv-loop μ-loop
+same-short-requires c κs = (omega arith, omega arith)
 
 returns-2 : tie.Need-returns-2 Inv-loop μ-loop
-returns-2 c = sym (same-end _ _ _ _ _ (omega arith)) ∙ c .before .loop .inv .1
+returns-2 c = c .same-short .ensures ∙ c .before .before .loop .inv .1
 
 pub same-at-spec : {M : Type 1} → statement M
 same-at-spec =
-    tie.close (tie.spec Inv-loop μ-loop loop-holds add-if1 shared-slice-read-if1 add-if1-2 shared-slice-read-if1-2 returns add-i loop-less loop-again
-    returns-2)
+    tie.close (tie.spec Inv-loop μ-loop loop-holds add-loop add-same-eight add-same-eight-2 same-eight-requires returns add-i loop-less loop-again
+    add-same-short add-same-short-2 sub-same-short same-short-requires returns-2)
