@@ -1,4 +1,6 @@
 // A board: what a record that is taken leaves and has put out, and a start.
+#![tactic(auto)]
+
 ghost use Rattle.std.specs.Prelude.{◌≡◌, true, [], ◌+◌, ◌*◌, ◌≤◌, ◌<◌, length};
 ghost use Rattle.state.specs.State.{fixed_bytes};
 ghost use Rattle.octets.specs.Bytes.{put};

@@ -1,4 +1,6 @@
 // A board's step: a record is refused, or taken with all that is then due.
+#![tactic(auto)]
+
 ghost use Rattle.std.specs.Prelude.{◌≡◌, length};
 ghost use Rattle.octets.specs.Bytes.{put};
 ghost use Rattle.board.specs.declared.Plan.TheVariants.{Take};

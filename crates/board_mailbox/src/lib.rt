@@ -1,5 +1,7 @@
 // A whole mailbox handed over to a board in one call, item by item. Soundness is looked at once: a step leaves a sound state sound. All but the
 // callees of a step becomes one frame, the loop's, which every delivery pays for: it keeps little of an item.
+#![tactic(auto)]
+
 ghost use Rattle.std.specs.Prelude.{◌≡◌, true, List, [], ◌∷◌, ℕ, ◌≤◌, ◌<◌, length};
 ghost use Rattle.octets.specs.Bytes.{put};
 ghost use Rattle.table.specs.Table.{limits};

@@ -1,4 +1,6 @@
 // A board's marks: whether they know a record already, what they are once it is taken, and what is then due.
+#![tactic(auto)]
+
 ghost use Rattle.std.specs.Prelude.{◌≡◌, true, ◌&&◌, ◌||◌, ◌+◌, ◌^◌, ◌≤◌, ◌<◌, length};
 ghost use Rattle.std.specs.Int.Bits.{bit_or};
 ghost use Rattle.state.specs.State.{fixed_bytes};

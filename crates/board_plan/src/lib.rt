@@ -1,4 +1,6 @@
 // What a step is to do with a record: the refusals in order.
+#![tactic(auto)]
+
 ghost use Rattle.std.specs.Prelude.{◌≡◌, true, ℕ, ◌≤◌, length};
 ghost use Rattle.table.specs.Table.{limits, is_board};
 ghost use Rattle.record.specs.Form.{parse};

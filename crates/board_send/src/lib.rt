@@ -1,4 +1,6 @@
 // The sender's record for a board. Fragment after fragment is worked out in the room that the record's own fragment has in `out`.
+#![tactic(auto)]
+
 ghost use Rattle.std.specs.Prelude.{◌≡◌, List, ℕ, ◌+◌, ◌*◌, ◌≤◌, ◌<◌, length};
 ghost use Rattle.octets.specs.Bytes.{part, put};
 ghost use Rattle.sha256.specs.Sha256.{sha256};

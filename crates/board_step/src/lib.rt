@@ -1,4 +1,6 @@
 // What a board does with a record that it takes: it keeps what the record says, puts out what is then due, and delivers.
+#![tactic(auto)]
+
 ghost use Rattle.std.specs.Prelude.{◌≡◌, List, ℕ, ◌≤◌, length};
 ghost use Rattle.octets.specs.Bytes.{put};
 ghost use Rattle.board.specs.declared.Plan.TheVariants.{Take};

@@ -1,4 +1,6 @@
 // Blocks: their bytes without storing them, and whether one can be read.
+#![tactic(auto)]
+
 ghost use Rattle.std.specs.Prelude.{◌≡◌, ◌++◌, ◌<◌, ◌≤◌, length, get_or};
 ghost use Rattle.code.specs.Block.{header, rows, readable};
 

@@ -1,4 +1,6 @@
 // The calls of the ground: hash, encode, rebuild, read a block. Each refuses by its number or works, whatever it is given.
+#![tactic(auto)]
+
 ghost use Rattle.std.specs.Prelude.{◌≡◌, true, false, not, ◌&&◌, ℕ, suc, ◌+◌, ◌*◌, ◌≤◌, ◌<◌, leb, length};
 ghost use Rattle.octets.specs.Sets.{has};
 ghost use Rattle.code_calls.specs.Hashing.{hash_of};

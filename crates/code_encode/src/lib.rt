@@ -1,5 +1,7 @@
 // Encoding: fragments of a message, whole columns at a time. A column is added to the rows of each board whose power has the bit, and doubled
 // between the bits: once for all boards.
+#![tactic(auto)]
+
 ghost use Rattle.std.specs.Prelude.{◌≡◌, ◌++◌, ℕ, suc, ◌+◌, ◌-◌, ◌*◌, ◌/◌, ◌%◌, ◌^◌, ◌<◌, ◌≤◌, length, get_or};
 ghost use Rattle.field.specs.Field.{add, mul};
 ghost use Rattle.octets.specs.Bytes.{put, place_each};

@@ -1,4 +1,6 @@
 // Rebuilding: the block whose fragments are those marked, by weights, whole columns at a time.
+#![tactic(auto)]
+
 ghost use Rattle.std.specs.Prelude.{◌≡◌, true, false, ℕ, suc, ◌+◌, ◌-◌, ◌*◌, ◌/◌, ◌^◌, ◌<◌, ◌≤◌, length, get_or, take};
 ghost use Rattle.std.specs.Int.Count.{ones};
 ghost use Rattle.code.specs.Code.{Apart};

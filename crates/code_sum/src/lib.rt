@@ -1,4 +1,6 @@
 // Weighed sums of fragments: bytes of the fragments at some points, each times its weight, added up, many bytes at a time.
+#![tactic(auto)]
+
 ghost use Rattle.std.specs.Prelude.{◌≡◌, true, ℕ, ◌+◌, ◌-◌, ◌*◌, ◌^◌, ◌<◌, ◌≤◌, length, get_or};
 ghost use Rattle.field.specs.Field.{add};
 ghost use Rattle.code_sum.specs.Sums.{InArea, weighed, Added};

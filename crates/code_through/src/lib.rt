@@ -1,4 +1,6 @@
 // Weights by which bytes at some points add up to a coefficient, or to the value at another point, of the polynomial through them.
+#![tactic(auto)]
+
 ghost use Rattle.std.specs.Prelude.{◌≡◌, List, ℕ, suc, ◌+◌, ◌-◌, ◌/◌, ◌^◌, ◌<◌, ◌≤◌, length, get_or, drop, take};
 ghost use Rattle.field.specs.Field.{add, mul};
 ghost use Rattle.code.specs.Code.{value, Apart};

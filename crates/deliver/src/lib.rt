@@ -1,5 +1,7 @@
 // What a board reads from its kept fragments in the output stage, before it encodes them afresh: the message's length and the block's last row.
 // No block is held in memory: each of its bytes is a weighed sum of the kept bytes of its row.
+#![tactic(auto)]
+
 ghost use Rattle.std.specs.Prelude.{◌≡◌, true, List, ℕ, suc, ◌+◌, ◌-◌, ◌*◌, ◌/◌, ◌%◌, ◌^◌, ◌<◌, ◌≤◌, length, get_or};
 ghost use Rattle.octets.specs.Bytes.{four_at};
 ghost use Rattle.table.specs.Table.{limits, k_of};

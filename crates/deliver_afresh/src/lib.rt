@@ -1,5 +1,7 @@
 // The root of a message's fragments, encoded afresh from the kept ones with no block in memory: each fragment's byte is a weighed sum of the kept
 // bytes of its row, and 64 of them are hashed at a time.
+#![tactic(auto)]
+
 ghost use Rattle.std.specs.Prelude.{◌≡◌, List, ◌∷◌, ℕ, suc, ◌+◌, ◌-◌, ◌*◌, ◌/◌, ◌<◌, ◌≤◌, length, get_or};
 ghost use Rattle.octets.specs.Bytes.{part, put};
 ghost use Rattle.code_sum.specs.Sums.{InArea};

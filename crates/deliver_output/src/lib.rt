@@ -1,5 +1,7 @@
 // What a board delivers in the output stage: the message whose fragments were kept, or void. No block is held in memory: each of its bytes,
 // and of its fragments' bytes, is a weighed sum of the kept bytes of its row.
+#![tactic(auto)]
+
 ghost use Rattle.std.specs.Prelude.{◌≡◌, true, List, ℕ, suc, ◌+◌, ◌-◌, ◌*◌, ◌/◌, ◌^◌, ◌<◌, ◌≤◌, length, get_or};
 ghost use Rattle.std.specs.Int.Count.{ones};
 ghost use Rattle.octets.specs.Bytes.{two_at, part, put};

@@ -1,4 +1,6 @@
 // A drill: its lines are read, its steps run, and what it prints is put into a lent buffer.
+#![tactic(auto)]
+
 ghost use Rattle.std.specs.Prelude.{◌≡◌, true, ◌||◌, ◌+◌, ◌*◌, ◌≤◌, ◌<◌, ltb, length, drop};
 ghost use Rattle.record.specs.Form.{out_bytes};
 ghost use Rattle.drill_lines.specs.Lines.{right_step};

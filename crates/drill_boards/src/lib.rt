@@ -1,4 +1,6 @@
 // What the boards of a drill have put out, in a lent buffer; and the record that is handed over from there, or raw.
+#![tactic(auto)]
+
 ghost use Rattle.std.specs.Prelude.{◌≡◌, List, ◌++◌, ℕ, ◌+◌, ◌-◌, ◌*◌, ◌≤◌, ◌<◌, ltb, length, get_or, take};
 ghost use Rattle.record.specs.Form.{out_bytes};
 ghost use Rattle.octets.specs.Bytes.{two, put};

@@ -1,4 +1,6 @@
 // What each line of a drill must be.
+#![tactic(auto)]
+
 ghost use Rattle.std.specs.Prelude.{◌≡◌, ◌≤◌};
 ghost use Rattle.drill_lines.specs.Lines.{form, table_in, right_table, breakers_in, are_boards, right_breakers, breaks, spaces_for, right_message, right_count, kind_in, right_kind, right_raw, right_words, right_boards, right_step};
 

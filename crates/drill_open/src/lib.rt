@@ -1,4 +1,6 @@
 // The four lines of a drill before its steps; and whether the next line is a right one.
+#![tactic(auto)]
+
 ghost use Rattle.std.specs.Prelude.{◌≡◌, true, List, ℕ, ◌≤◌, length, take, drop};
 ghost use Rattle.drill_words.specs.Words.{upto};
 ghost use Rattle.drill_lines.specs.Lines.{right_table, right_breakers, right_message, right_count, right_step, table_in, breakers_in, message_in, count_in};

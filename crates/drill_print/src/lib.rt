@@ -1,4 +1,6 @@
 // What a drill prints, put into a lent buffer piece by piece.
+#![tactic(auto)]
+
 ghost use Rattle.std.specs.Prelude.{◌≡◌, ◌+◌, ◌*◌, ◌≤◌, ◌<◌, length, take};
 ghost use Rattle.octets.specs.Bytes.{put};
 ghost use Rattle.drill_words.specs.Numbers.{digit, decimal, letter, hex_of};

@@ -1,4 +1,6 @@
 // One step of a drill with its boards, which are in lent buffers; and their fresh states.
+#![tactic(auto)]
+
 ghost use Rattle.std.specs.Prelude.{◌≡◌, true, List, ℕ, ◌+◌, ◌-◌, ◌*◌, ◌≤◌, ◌<◌, length, take};
 ghost use Rattle.record.specs.Form.{out_bytes};
 ghost use Rattle.octets.specs.Bytes.{put};

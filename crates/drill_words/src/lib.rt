@@ -1,4 +1,6 @@
 // Lines, words, numbers and hex in bytes.
+#![tactic(auto)]
+
 ghost use Rattle.std.specs.Prelude.{◌≡◌, ◌+◌, ◌*◌, ◌/◌, ◌%◌, ◌≤◌, ◌<◌, length, drop};
 ghost use Rattle.octets.specs.Bytes.{put};
 ghost use Rattle.drill_words.specs.Words.{upto, past, how_many, skip, word};

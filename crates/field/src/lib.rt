@@ -1,4 +1,6 @@
 // The field of 256 elements: bytes, addition by exclusive or, multiplication modulo the polynomial 285.
+#![tactic(auto)]
+
 ghost use Rattle.std.specs.Prelude.{◌≡◌, ℕ, ◌<◌, ◌≤◌, ◌*◌, length, get_or};
 ghost use Rattle.field.specs.Field.{add, double, mul, power};
 

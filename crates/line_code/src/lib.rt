@@ -1,1 +1,2 @@
 // Nothing runs here: this crate joins definitions and laws.
+#![tactic(auto)]

@@ -1,1 +1,2 @@
 // Nothing runs here: this crate proves demand 3 of the definitions that the calls' contracts cite.
+#![tactic(auto)]

@@ -1,4 +1,6 @@
 // A mailbox: a count, then items; each a board, a length and a record.
+#![tactic(auto)]
+
 ghost use Rattle.std.specs.Prelude.{◌≡◌};
 ghost use Rattle.mailbox.specs.Items.{framed};
 

@@ -1,4 +1,6 @@
 // Which boards name a value, and whether a quorum names one: over places of any room.
+#![tactic(auto)]
+
 ghost use Rattle.std.specs.Prelude.{◌≡◌, ◌&&◌, ℕ, ◌+◌, ◌*◌, ◌≤◌, ◌<◌, length, leb};
 ghost use Rattle.std.specs.Int.Count.{ones};
 ghost use Rattle.octets.specs.Bytes.{same};

@@ -1,4 +1,6 @@
 // Notices: their records, and what a board keeps of them.
+#![tactic(auto)]
+
 ghost use Rattle.std.specs.Prelude.{◌≡◌, ◌+◌, ◌≤◌, length};
 ghost use Rattle.octets.specs.Bytes.{put};
 ghost use Rattle.notice.specs.Form.{is_notice_kind, notice_most, parse_notice, notice_form, notice_record};

@@ -1,4 +1,6 @@
 // Whether a notice board's state is sound, and how many boards are for a notice.
+#![tactic(auto)]
+
 ghost use Rattle.std.specs.Prelude.{◌≡◌, true, ℕ, ◌+◌, ◌≤◌, ◌<◌, length, get_or, leb, eqb};
 ghost use Rattle.octets.specs.Bytes.{pick};
 ghost use Rattle.octets.specs.Sets.{every};

@@ -1,4 +1,6 @@
 // A notice board: its start, its step, and the sender's record.
+#![tactic(auto)]
+
 ghost use Rattle.std.specs.Prelude.{◌≡◌, true, not, ◌&&◌, ◌||◌, List, ℕ, ◌+◌, ◌≤◌, ◌<◌, length};
 ghost use Rattle.octets.specs.Bytes.{pick, put};
 ghost use Rattle.table.specs.Table.{limits, is_board};

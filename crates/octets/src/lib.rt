@@ -1,4 +1,6 @@
 // Numbers and runs of bytes in a lent buffer.
+#![tactic(auto)]
+
 ghost use Rattle.std.specs.Prelude.{◌≡◌, ℕ, ◌+◌, ◌*◌, ◌^◌, ◌≤◌, ◌<◌, min, length, get_or, replicate};
 ghost use Rattle.octets.specs.Bytes.{two_at, four_at, eight_at, two, four, eight, part, put, same};
 

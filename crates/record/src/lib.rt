@@ -1,4 +1,6 @@
 // Records: a kind byte, then root, path and fragment, each after its two-byte count.
+#![tactic(auto)]
+
 ghost use Rattle.std.specs.Prelude.{◌≡◌, ◌≤◌};
 ghost use Rattle.octets.specs.Bytes.{put};
 ghost use Rattle.record.specs.Form.{Parts, record_of, form_of, is_kind, nodes_most, path_ok, fragment_ok, parse, parse_root, parse_path, parse_fragment};

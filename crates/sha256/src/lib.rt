@@ -1,4 +1,6 @@
 // SHA-256, as FIPS 180-4 has it: the compression of a block.
+#![tactic(auto)]
+
 ghost use Rattle.std.specs.Prelude.{◌≡◌, ℕ, ◌+◌, ◌-◌, ◌*◌, ◌/◌, ◌<◌, List, length, take};
 ghost use Rattle.octets.specs.Bytes.{part};
 ghost use Rattle.sha256.specs.Words.{rotr, ch, maj, Σ₀, Σ₁, σ₀, σ₁};

@@ -1,4 +1,6 @@
 // SHA-256 of strings of bytes: padding, blocks taken into the chaining words, the digest.
+#![tactic(auto)]
+
 ghost use Rattle.std.specs.Prelude.{◌≡◌, ℕ, ◌<◌, ◌≤◌, ◌+◌, ◌-◌, ◌*◌, ◌/◌, ◌%◌, List, ◌++◌, length, get_or, take};
 ghost use Rattle.octets.specs.Bytes.{put, tab, four_at};
 ghost use Rattle.sha256.specs.Sha256.{compress, byte_of, pad, block_at, digest, sha256};

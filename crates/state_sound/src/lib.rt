@@ -1,4 +1,6 @@
 // Whether a board's state is sound.
+#![tactic(auto)]
+
 ghost use Rattle.std.specs.Prelude.{◌≡◌, true, not, ◌||◌, ◌≤◌, ◌<◌, length};
 ghost use Rattle.octets.specs.Sets.{every};
 ghost use Rattle.table.specs.Table.{limits, s_max};

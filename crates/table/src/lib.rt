@@ -1,4 +1,6 @@
 // The table of boards, and sets of boards as 64-bit numbers.
+#![tactic(auto)]
+
 ghost use Rattle.std.specs.Prelude.{◌≡◌, true, false, ℕ, ◌+◌, ◌-◌, ◌*◌, ◌/◌, ◌^◌, ◌≤◌, ◌<◌, eqb};
 ghost use Rattle.std.specs.Int.Count.{ones};
 ghost use Rattle.octets.specs.Sets.{has};

@@ -1,4 +1,6 @@
 // The hash tree of RFC 6962 over 1 to 64 fragments: the path check, and where in the tree a leaf is.
+#![tactic(auto)]
+
 ghost use Rattle.std.specs.Prelude.{◌≡◌, List, ◌++◌, ℕ, ◌<◌, ◌≤◌, ◌+◌, ◌-◌, ◌*◌, ◌^◌, min, length};
 ghost use Rattle.octets.specs.Bytes.{part};
 ghost use Rattle.sha256.specs.Sha256.{digest, sha256};

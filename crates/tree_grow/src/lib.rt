@@ -1,4 +1,6 @@
 // The root and the paths of RFC 6962's hash tree over 1 to 64 fragments of an area, level by level through the paths.
+#![tactic(auto)]
+
 ghost use Rattle.std.specs.Prelude.{◌≡◌, List, ℕ, ◌<◌, ◌≤◌, ◌+◌, ◌-◌, ◌*◌, ◌^◌, length};
 ghost use Rattle.octets.specs.Bytes.{part, put, place_each};
 ghost use Rattle.sha256.specs.Sha256.{digest, sha256};

@@ -1,5 +1,7 @@
 // The root of 1 to 64 leaves that come one after the other. What waits of them is a stack of hashes in a lent buffer of 224 bytes, that of the
 // largest tree first; two that stand side by side become one where they stand.
+#![tactic(auto)]
+
 ghost use Rattle.std.specs.Prelude.{◌≡◌, ◌&&◌, List, ℕ, ◌+◌, ◌*◌, ◌<◌, ◌≤◌, ltb, length};
 ghost use Rattle.octets.specs.Bytes.{part, put, pick};
 ghost use Rattle.sha256.specs.Sha256.{sha256};

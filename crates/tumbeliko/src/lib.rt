@@ -1,5 +1,7 @@
 // What C calls: every function of the library that firmware links, over the crates that do the work.
 // A slice is a pointer and then a length; every number may come in. include/tumbeliko.h says it for C.
+#![tactic(auto)]
+
 ghost use Rattle.std.specs.Prelude.{◌≡◌};
 ghost use Rattle.record.specs.Form.{parse, answered};
 ghost use Rattle.tree.specs.Check.{path_correct};

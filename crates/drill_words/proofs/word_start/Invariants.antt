@@ -1,0 +1,15 @@
+use mathlib.Core.Path.{◌≡◌, refl, ◌∙◌}
+use Prim.Native.Nat.{◌-◌, ◌≤◌}
+use lib.ListN.{length, drop}
+use Rattle.drill_words.proofs.Finding.{skip_more}
+use Rattle.drill_words.specs.Words.{skip}
+use native.Mathlib.Numerals.{add-one}
+use borrow.Author.Rules.{rules}
+use native.Mathlib.Omega.{arith}
+use Rattle.drill_words.proofs.word_start.Given as goal
+
+abbrev pub invariant-loop-j : goal.invariant-loop-j
+invariant-loop-j l = (drop l.at l.s ≡ skip l.j l.s) × ((l.at ≤ length l.s) × (l.j ≤ l.i))
+
+abbrev pub decreases-loop-j : goal.decreases-loop-j
+decreases-loop-j l = l.i - l.j

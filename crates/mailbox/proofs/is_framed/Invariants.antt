@@ -1,0 +1,16 @@
+use Rattle.mailbox.proofs.Framing.{framed_many}
+use mathlib.Core.Path.{◌≡◌, sym, ◌∙◌}
+use Prim.Native.Nat.{◌≤◌, ◌-◌}
+use native.Mathlib.Omega.{arith}
+use native.Mathlib.Nat.{sub-zero}
+use borrow.Author.Tests.{lt-leb}
+use lib.ListN.{length}
+use Rattle.mailbox.specs.Items.{complete, framed}
+use Rattle.mailbox.proofs.Framing.{complete_next, complete_cut, complete_last, framed_by}
+use Rattle.mailbox.proofs.is_framed.Given as goal
+
+abbrev pub invariant-loop-i : goal.invariant-loop-i
+invariant-loop-i l = (l.i ≤ l.count) × (l.at ≤ length l.mailbox) × (complete (l.count - l.i) l.at l.mailbox ≡ framed l.mailbox)
+
+abbrev pub decreases-loop-i : goal.decreases-loop-i
+decreases-loop-i l = l.count - l.i

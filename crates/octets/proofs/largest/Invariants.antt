@@ -1,0 +1,14 @@
+-- `octets::largest` meets its contract. The loop's invariant: none of the first i is larger.
+-- Assumes nothing.
+use borrow.Author.Count.{below_more}
+use Prim.Native.Nat.{ℕ, ◌-◌, ◌<◌, ◌≤◌}
+use native.Mathlib.Omega.{arith}
+use native.Mathlib.Nat as N
+use lib.ListN.{get_or}
+use Rattle.octets.proofs.largest.Given as goal
+
+abbrev pub invariant-loop-i : goal.invariant-loop-i
+invariant-loop-i l = (l.i ≤ l.n) × ((j : ℕ) → j < l.i → get_or l.s j 0 ≤ l.most)
+
+abbrev pub decreases-loop-i : goal.decreases-loop-i
+decreases-loop-i l = l.n - l.i
