@@ -12,7 +12,7 @@ use lib.ListN.{length, get_or}
 use Rattle.field.specs.Tables.{powers, logs, inverse}
 use Rattle.field.specs.Field.{add, double, mul, power}
 use Rattle.octets.proofs.Below.{below, both, both_left, both_right}
-use Rattle.field.proofs.Laws.{add_zero, double_lt, double_mul, mul_comm, mul_assoc, one_mul_l, zero_mul_r}
+use Rattle.field.proofs.Laws.{double_lt, double_mul, mul_comm, mul_assoc, one_mul_l, zero_mul_r}
 
 -- ---- the table of powers: it starts at 1, and each entry is twice the one before
 

@@ -1,10 +1,10 @@
 use mathlib.Core.Path.{◌≡◌, ap, ◌∙◌}
 use mathlib.Core.List.{List}
-use Prim.Native.Nat.{ℕ, ◌-◌, ◌≤◌}
+use Prim.Native.Nat.{ℕ}
 use native.Mathlib.Omega.{arith}
 use lib.ListN.{get_or}
 use Rattle.field.specs.Field.{double}
-use Rattle.octets.proofs.Walk.{Walked, start, next}
+use Rattle.octets.proofs.Walk.{start, next}
 use Rattle.field.proofs.double_all.Goals as goal
 
 abbrev New : List ℕ → ℕ → ℕ → Type 0

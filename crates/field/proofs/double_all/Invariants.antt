@@ -1,12 +1,11 @@
 -- `field::double_all` meets its contract. The loop's invariant: i bytes are done.
 -- Assumes nothing.
-use mathlib.Core.Path.{◌≡◌, ap, ◌∙◌}
+use mathlib.Core.Path.{◌≡◌}
 use mathlib.Core.List.{List}
 use Prim.Native.Nat.{ℕ, ◌-◌, ◌≤◌}
-use native.Mathlib.Omega.{arith}
 use lib.ListN.{get_or}
 use Rattle.field.specs.Field.{double}
-use Rattle.octets.proofs.Walk.{Walked, start, next}
+use Rattle.octets.proofs.Walk.{Walked}
 use Rattle.field.proofs.double_all.Given as goal
 
 abbrev New : List ℕ → ℕ → ℕ → Type 0

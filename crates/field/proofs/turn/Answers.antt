@@ -1,6 +1,5 @@
 -- `field::turn` meets its contract: the powers repeat after 255.
 -- Assumes nothing.
-use borrow.Author.Rules.{rules}
 use native.Mathlib.Omega.{arith}
 use Rattle.field.proofs.Powers.{power_less}
 use Rattle.field.proofs.turn.Goals as goal

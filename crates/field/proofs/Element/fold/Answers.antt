@@ -1,6 +1,5 @@
 -- `field::Element::fold` meets its contract.
 -- Assumes nothing.
-use borrow.Author.Rules.{rules}
 use mathlib.Core.Path.{ap, ◌∙◌}
 use Rattle.field.specs.Field.{add}
 use Rattle.field.proofs.Element.fold.Goals as goal

@@ -8,7 +8,7 @@ use Rattle.field.proofs.Element.inverse.Goals as goal
 
 pub returns : goal.returns
 returns c =
-    let g = c.well-formed in
+    let g = c.well_formed in
     let e : c.product-7.result.0 ≡ power_254 c.args.self.0 = rw (
       c.product-7.ensures,
       c.product-a127.ensures,

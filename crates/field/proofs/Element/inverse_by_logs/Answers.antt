@@ -1,6 +1,5 @@
 -- `field::Element::inverse_by_logs` meets its contract: the two logarithms add up to 255.
 -- Assumes nothing.
-use borrow.Author.Rules.{rules}
 use mathlib.Core.Path.{sym, ap₂, ◌∙◌}
 use Rattle.field.specs.Field.{mul}
 use Rattle.field.proofs.Powers.{power_turn}

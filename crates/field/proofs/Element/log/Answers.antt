@@ -1,6 +1,5 @@
 -- `field::Element::log` meets its contract, by the rule of the table of logarithms.
 -- Assumes nothing.
-use borrow.Author.Rules.{rules}
 use native.Mathlib.Omega.{arith}
 use Rattle.field.specs.Tables.{logs}
 use Rattle.field.proofs.Powers.{logs_lt, power_log}

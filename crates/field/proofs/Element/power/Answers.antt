@@ -1,6 +1,5 @@
 -- `field::Element::power` meets its contract, by the rule of the table of powers.
 -- Assumes nothing.
-use borrow.Author.Rules.{rules}
 use mathlib.Core.Path.{◌∙◌}
 use Rattle.field.specs.Tables.{powers}
 use Rattle.field.proofs.Powers.{powers_at}

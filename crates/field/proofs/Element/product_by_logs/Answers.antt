@@ -1,6 +1,5 @@
 -- `field::Element::product_by_logs` meets its contract: a sum of logarithms is the logarithm of the product.
 -- Assumes nothing.
-use borrow.Author.Rules.{rules}
 use mathlib.Core.Path.{sym, ap₂, ◌∙◌}
 use Rattle.field.specs.Field.{mul}
 use Rattle.field.proofs.Laws.{zero_mul_l, zero_mul_r}

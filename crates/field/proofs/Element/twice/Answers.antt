@@ -1,6 +1,5 @@
 -- `field::Element::twice` meets its contract.
 -- Assumes nothing.
-use borrow.Author.Rules.{rules}
 use native.Mathlib.Omega.{arith}
 use Rattle.field.specs.Field.{add}
 use Rattle.field.proofs.Bits.{shifted}
