@@ -1,5 +1,5 @@
 -- What is seen of the boards of a set when bytes or the set change.
-use Prim.Native.Nat.{ℕ, zero, suc, ◌-◌, ◌^◌, ◌≤◌, ◌<◌}
+use Prim.Native.Nat.{ℕ, zero, suc, ◌-◌, ◌^◌}
 use native.Mathlib.Omega.{arith}
 use mathlib.Core.Bool.{Bool, true, false}
 use mathlib.Core.Path.{◌≡◌, refl, sym, ◌∙◌, ap}
