@@ -1,5 +1,4 @@
 -- `sha256::big0` meets its contract. Assumes nothing.
-use Rattle.std.proofs.Common.{rules}
 use Rattle.sha256.specs.Words.{Σ₀}
 use Rattle.sha256.proofs.big0.Goals as goal
 

@@ -1,5 +1,4 @@
 -- `sha256::big1` meets its contract. Assumes nothing.
-use Rattle.std.proofs.Common.{rules}
 use Rattle.sha256.specs.Words.{Σ₁}
 use Rattle.sha256.proofs.big1.Goals as goal
 

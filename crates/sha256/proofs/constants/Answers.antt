@@ -2,7 +2,6 @@
 use Rattle.std.proofs.Common.{◌≡◌, ℕ, ◌*◌, sym, ap, arith}
 use Rattle.octets.specs.Bytes.{part}
 use Rattle.sha256.specs.Tables.{K}
-use Rattle.sha256.proofs.Rounds.{last_case}
 use Rattle.sha256.proofs.constants.Goals as goal
 
 pub returns-in-0 : goal.returns-in-0
@@ -43,6 +42,4 @@ returns-in-6 c =
 pub returns-in_default : goal.returns-in_default
 unfolding part K
 returns-in_default c =
-    let r = c.in-0.rest in
-    let e : c.args.q ≡ 7 = last_case c.args.q c.requires r.0.0.0.0.0.0.1 r.0.0.0.0.0.1 r.0.0.0.0.1 r.0.0.0.1 r.0.0.1 r.0.1 r.1 in
-    ap (λ (n : ℕ). part (8 * n) 8 K) (sym e)
+    let e : c.args.q ≡ 7 = omega arith in ap (λ (n : ℕ). part (8 * n) 8 K) (sym e)

@@ -1,4 +1,4 @@
-use Rattle.std.proofs.Common.{◌≡◌, ℕ, ◌-◌, ◌≤◌, List, length, take, arith, length-set}
+use Rattle.std.proofs.Common.{arith, length-set}
 use Rattle.octets.proofs.Tables.{whole}
 use Rattle.sha256.specs.Sha256.{words}
 use Rattle.sha256.proofs.Next.{expand_step}

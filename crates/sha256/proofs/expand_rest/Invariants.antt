@@ -1,8 +1,6 @@
 -- `sha256::expand_rest` meets its contract. Assumes nothing.
-use Rattle.std.proofs.Common.{◌≡◌, ℕ, ◌-◌, ◌≤◌, List, length, take, arith, length-set}
-use Rattle.octets.proofs.Tables.{whole}
+use Rattle.std.proofs.Common.{◌≡◌, ℕ, ◌-◌, ◌≤◌, List, length, take}
 use Rattle.sha256.specs.Sha256.{words}
-use Rattle.sha256.proofs.Next.{expand_step}
 use Rattle.sha256.proofs.expand_rest.Given as goal
 
 abbrev pub invariant-loop-t : goal.invariant-loop-t

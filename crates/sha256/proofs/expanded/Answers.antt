@@ -1,5 +1,4 @@
 -- `sha256::expanded` meets its contract. Assumes nothing.
-use Rattle.std.proofs.Common.{rules}
 use Rattle.sha256.specs.Sha256.{expand}
 use Rattle.sha256.specs.Words.{◌⊞◌}
 use Rattle.sha256.proofs.expanded.Goals as goal

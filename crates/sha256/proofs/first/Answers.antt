@@ -1,5 +1,4 @@
 -- `sha256::first` meets its contract. Assumes nothing.
-use Rattle.std.proofs.Common.{rules}
 use Rattle.sha256.specs.Sha256.{T₁}
 use Rattle.sha256.specs.Words.{◌⊞◌}
 use Rattle.sha256.proofs.first.Goals as goal

@@ -1,6 +1,5 @@
 -- `sha256::mixed` meets its contract. Assumes nothing.
 use Rattle.sha256.proofs.Blocks.{mixed_made}
-use Rattle.std.proofs.Common.{rules}
 use Rattle.sha256.proofs.mixed.Goals as goal
 
 pub returns : goal.returns

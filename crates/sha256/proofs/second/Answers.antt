@@ -1,5 +1,4 @@
 -- `sha256::second` meets its contract. Assumes nothing.
-use Rattle.std.proofs.Common.{rules}
 use Rattle.sha256.specs.Sha256.{T₂}
 use Rattle.sha256.specs.Words.{◌⊞◌}
 use Rattle.sha256.proofs.second.Goals as goal

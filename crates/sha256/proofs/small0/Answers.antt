@@ -1,5 +1,4 @@
 -- `sha256::small0` meets its contract. Assumes nothing.
-use Rattle.std.proofs.Common.{rules}
 use Rattle.sha256.specs.Words.{σ₀, shr}
 use Rattle.sha256.proofs.small0.Goals as goal
 

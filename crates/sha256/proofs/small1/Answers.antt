@@ -1,5 +1,4 @@
 -- `sha256::small1` meets its contract. Assumes nothing.
-use Rattle.std.proofs.Common.{rules}
 use Rattle.sha256.specs.Words.{σ₁, shr}
 use Rattle.sha256.proofs.small1.Goals as goal
 

@@ -1,7 +1,6 @@
 -- `sha256::turned` meets its contract. Assumes nothing.
-use Rattle.std.proofs.Common.{rules}
 use Rattle.sha256.proofs.Rounds.{made_round}
 use Rattle.sha256.proofs.turned.Goals as goal
 
 pub returns : goal.returns
-returns c = made_round _ _ _ _ _ _ _ c.first-x.ensures c.second-y.ensures c.wrapping_add_u32-a.ensures c.wrapping_add_u32-e.ensures
+returns c = made_round _ _ _ _ _ _ _ c.first-x.ensures c.second-y.ensures c.wrapping_add_u32-a.ensures.value c.wrapping_add_u32-e.ensures.value

@@ -1,5 +1,5 @@
 -- `sha256::turned_all` meets its contract. Assumes nothing.
-use Rattle.std.proofs.Common.{◌≡◌, ℕ, ◌+◌, ◌-◌, ◌*◌, ◌≤◌, refl, ap, ◌∙◌, arith}
+use Rattle.std.proofs.Common.{◌≡◌, ◌-◌, ◌*◌, ◌≤◌}
 use Rattle.sha256.specs.Sha256.{rounds}
 use Rattle.sha256.proofs.turned_all.Given as goal
 

@@ -1,6 +1,5 @@
 -- `sha256::turned_eight` meets its contract. Assumes nothing.
 use Rattle.sha256.proofs.Rounds.{rounds_eight}
-use Rattle.std.proofs.Common.{rules}
 use Rattle.sha256.proofs.turned_eight.Goals as goal
 
 pub returns : goal.returns
