@@ -2,7 +2,7 @@
 use Prim.Native.Nat.{ℕ, ◌-◌, ◌*◌, ◌≤◌}
 use native.Mathlib.Omega.{arith}
 use mathlib.Core.Bool.{Bool, true, not, ◌&&◌}
-use mathlib.Core.Path.{◌≡◌, subst, sym}
+use mathlib.Core.Path.{◌≡◌, refl, subst, sym}
 use mathlib.Core.Logic.{◌⊎◌, inl, inr}
 use mathlib.Core.Option.{some}
 use lib.Dec.{T, T_not, not_T}
@@ -17,7 +17,7 @@ use Rattle.line.proofs.Runs.{state_own, step_cases, along, stays}
 module _ {M : Machine} {n t : ℕ} {Val : Type 0} {R : Reading M Val} (E : EchoVote M n t Val R) where
   -- every state of a run is good
   pub good : (r : Run M) (j : ℕ) → R.Good j (state M r j)
-  good r j = along M (λ q s. R.Good j s) j (E.Good-start j) (λ q x g. E.good_next g x) (λ q k x g. g) r
+  good r j = along M (λ q s. R.Good j s) j (E.good_start j) (λ q x g. E.good_next g x) (λ q k x g. g) r
 
   -- a board that has spoken is marked so
   pub said_spoke : {w : Word} {i : ℕ} {v : Val} {r : Run M} → Said R w i v r → T (R.spoke w (state M r i))
@@ -28,11 +28,14 @@ module _ {M : Machine} {n t : ℕ} {Val : Type 0} {R : Reading M Val} (E : EchoV
   unspoken {w} {i} {v} {u} {r} {x} e p = T_not (R.spoke w (state M r i)) (E.says_once (good r i) x w v e).0 (said_spoke p)
 
   -- a board echoes one value and votes for one value
+  same_value : {w : Word} {i j : ℕ} {v u : Val} {r : Run M} → Said R w i v r → Said R w j u r → i ≡ j → v ≡ u
+  same_value (Said.now e) (Said.now f) h = cc
+  same_value {w} {u = u} (Said.now {r} e) (Said.then q) h = absurd (unspoken e (subst (λ k. Said R w k u r) (sym h) q))
+  same_value {w} {v = v} (Said.then p) (Said.now {r} f) h = absurd (unspoken f (subst (λ k. Said R w k v r) h p))
+  same_value (Said.then p) (Said.then q) h = same_value p q h
+
   pub one_value : {w : Word} {i : ℕ} {v u : Val} {r : Run M} → Said R w i v r → Said R w i u r → v ≡ u
-  one_value (Said.now e) (Said.now f) = cc
-  one_value (Said.now e) (Said.then q) = absurd (unspoken e q)
-  one_value (Said.then p) (Said.now f) = absurd (unspoken f p)
-  one_value (Said.then p) (Said.then q) = one_value p q
+  one_value p q = same_value p q refl
 
   -- what is put out was said, and what was said is put out for each receiver
   pub put_said : {w : Word} {i j : ℕ} {ρ : M.Rec} {v : Val} {r : Run M} → R.Says w ρ v → Put M i j ρ r → Said R w i v r
@@ -93,12 +96,13 @@ module _ {M : Machine} {n t : ℕ} {Val : Type 0} {R : Reading M Val} (E : EchoV
     source_on v r k x (j, kj, h) = (j, kj, omega (arith, heard_on r k x j echo v))
 
     pub vote_source : {i : ℕ} {v : Val} {r : Run M} → Fair M keeps Sent r → T (keeps i) → Said R vote i v r → Source v r
+    vote_source Fair.begun ki p = elim p [ ]
     vote_source {v = v} (Fair.went f g) ki (Said.then {r} {k} {y} p) = source_on v r k y (vote_source f ki p)
     vote_source {i} {v} (Fair.went f g) ki (Said.now {r} {x} e) = elim (E.vote_why (good r i) x v e) [
       | inl h ↦ (i, ki, rw state_own h)
       | inr h ↦ (
           let (k, kk, hk) = one_keeps K (R.heard vote (M.next (state M r i) x) v) h in
-          source_on v r i x (vote_source f kk (heard_before (Fair.went f g) vote k v kk ki hk)))
+          source_on v r i x (vote_source {i = k} f kk (heard_before (Fair.went f g) vote k v kk ki hk)))
     ]
 
     -- Source document 000, Bracha Property B2: "If an honest party votes for a message, then at least n - t - t' honest parties must

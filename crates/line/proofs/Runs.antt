@@ -65,8 +65,13 @@ module _ (M : Machine) where
   pub no_took : {j : ℕ} {x : In M} → Took M j x fresh → ⊥
   no_took t = elim t [ ]
 
+  took_this : {keeps : ℕ → Bool} {Sent : ℕ → ℕ → M.Rec → Type 0} {r : Run M} {i j : ℕ} {ρ : M.Rec} {y : In M} → Fair M keeps Sent r
+      → Took M j y r → y ≡ hand i ρ → T (keeps i) → T (keeps j) → Genuine M Sent r i j ρ
+  took_this Fair.begun t e ki kj = elim t [ ]
+  took_this {i = i} {ρ = ρ} (Fair.went f g) Took.now e ki kj = elim (g i ρ e ki kj) [ inl p ↦ inl (Put.then p) | inr s ↦ inr s ]
+  took_this (Fair.went f g) (Took.then t) e ki kj = elim (took_this f t e ki kj) [ inl p ↦ inl (Put.then p) | inr s ↦ inr s ]
+
   -- in a fair run, what was handed over between rule-keeping boards was genuine
   pub took_genuine : {keeps : ℕ → Bool} {Sent : ℕ → ℕ → M.Rec → Type 0} {r : Run M} {i j : ℕ} {ρ : M.Rec} → Fair M keeps Sent r
       → Took M j (hand i ρ) r → T (keeps i) → T (keeps j) → Genuine M Sent r i j ρ
-  took_genuine {i = i} {ρ = ρ} (Fair.went f g) Took.now ki kj = elim (g i ρ refl ki kj) [ inl p ↦ inl (Put.then p) | inr s ↦ inr s ]
-  took_genuine (Fair.went f g) (Took.then t) ki kj = elim (took_genuine f t ki kj) [ inl p ↦ inl (Put.then p) | inr s ↦ inr s ]
+  took_genuine f t ki kj = took_this f t refl ki kj

@@ -47,6 +47,7 @@ module _ {M : Machine} {n t : ℕ} {Val : Type 0} {R : Reading M Val} {E : EchoV
 
     -- what is echoed is S's value
     pub echoes_valid : {i : ℕ} {u : Val} {r : Run M} → Fair M keeps (Mail n S mail) r → T (keeps i) → Said R echo i u r → u ≡ v
+    echoes_valid Fair.begun ki p = elim p [ ]
     echoes_valid (Fair.went f g) ki (Said.then p) = echoes_valid f ki p
     echoes_valid {i} {u} (Fair.went f g) ki (Said.now {r} {x} e) =
         let (ρ, ex, sd, ft) = D.echo_why (good E r i) x u e in
