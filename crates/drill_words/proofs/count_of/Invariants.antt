@@ -1,10 +1,7 @@
-use mathlib.Core.Logic.{⊎_elim}
-use Rattle.drill_words.proofs.Counting.{count_on, count_off, count_end}
 use Rattle.drill_words.specs.Words.{how_many}
 use lib.ListN.{length, drop}
-use native.Mathlib.Omega.{arith}
 use Prim.Native.Nat.{◌+◌, ◌-◌, ◌≤◌}
-use mathlib.Core.Path.{◌≡◌, sym, ◌∙◌}
+use mathlib.Core.Path.{◌≡◌}
 use Rattle.drill_words.proofs.count_of.Given as goal
 
 abbrev pub invariant-loop-i : goal.invariant-loop-i

@@ -1,11 +1,7 @@
-use borrow.Author.Rules.{rules}
 use Rattle.drill_words.proofs.Storing.{decode_turn, decode_end}
-use Rattle.octets.specs.Bytes.{put}
-use Rattle.drill_words.specs.Numbers.{from_hex}
-use lib.ListN.{length, drop, length-set}
+use lib.ListN.{length-set}
 use native.Mathlib.Omega.{arith}
-use Prim.Native.Nat.{◌-◌, ◌*◌, ◌≤◌}
-use mathlib.Core.Path.{◌≡◌, refl, sym, ◌∙◌}
+use mathlib.Core.Path.{refl, sym, ◌∙◌}
 use Rattle.drill_words.proofs.decode.Goals as goal
 
 pub loop-i-init : goal.loop-i-init

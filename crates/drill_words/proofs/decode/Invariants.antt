@@ -1,11 +1,8 @@
-use borrow.Author.Rules.{rules}
-use Rattle.drill_words.proofs.Storing.{decode_turn, decode_end}
 use Rattle.octets.specs.Bytes.{put}
 use Rattle.drill_words.specs.Numbers.{from_hex}
-use lib.ListN.{length, drop, length-set}
-use native.Mathlib.Omega.{arith}
+use lib.ListN.{length, drop}
 use Prim.Native.Nat.{◌-◌, ◌*◌, ◌≤◌}
-use mathlib.Core.Path.{◌≡◌, refl, sym, ◌∙◌}
+use mathlib.Core.Path.{◌≡◌}
 use Rattle.drill_words.proofs.decode.Given as goal
 
 abbrev pub invariant-loop-i : goal.invariant-loop-i

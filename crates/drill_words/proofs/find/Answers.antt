@@ -1,9 +1,6 @@
 use Rattle.drill_words.proofs.Finding.{found, further, at_end}
-use Rattle.drill_words.specs.Words.{upto}
-use lib.ListN.{length, drop}
 use native.Mathlib.Omega.{arith}
-use Prim.Native.Nat.{◌+◌, ◌-◌, ◌≤◌}
-use mathlib.Core.Path.{◌≡◌, refl}
+use mathlib.Core.Path.{refl}
 use Rattle.drill_words.proofs.find.Goals as goal
 
 pub loop-i-init : goal.loop-i-init

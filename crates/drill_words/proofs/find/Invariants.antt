@@ -1,9 +1,7 @@
-use Rattle.drill_words.proofs.Finding.{found, further, at_end}
 use Rattle.drill_words.specs.Words.{upto}
 use lib.ListN.{length, drop}
-use native.Mathlib.Omega.{arith}
 use Prim.Native.Nat.{◌+◌, ◌-◌, ◌≤◌}
-use mathlib.Core.Path.{◌≡◌, refl}
+use mathlib.Core.Path.{◌≡◌}
 use Rattle.drill_words.proofs.find.Given as goal
 
 abbrev pub invariant-loop-i : goal.invariant-loop-i

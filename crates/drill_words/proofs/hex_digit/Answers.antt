@@ -1,7 +1,5 @@
 use Rattle.drill_words.proofs.Digits.{hex_low, hex_number, hex_between, hex_letter, hex_high}
 use native.Mathlib.Omega.{arith}
-use Prim.Native.Nat.{◌-◌}
-use borrow.Author.Rules.{rules}
 use Rattle.drill_words.proofs.hex_digit.Goals as goal
 
 pub returns-then-x-lt48 : goal.returns-then-x-lt48

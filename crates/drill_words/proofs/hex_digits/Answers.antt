@@ -1,10 +1,6 @@
-use borrow.Author.Rules.{rules}
 use Rattle.drill_words.proofs.Counting.{digits_on, digits_off, digits_end}
-use Rattle.drill_words.specs.Numbers.{hex_digits}
-use lib.ListN.{length, drop}
 use native.Mathlib.Omega.{arith}
-use Prim.Native.Nat.{◌-◌, ◌≤◌}
-use mathlib.Core.Path.{◌≡◌, refl, sym, ◌∙◌}
+use mathlib.Core.Path.{sym, ◌∙◌}
 use Rattle.drill_words.proofs.hex_digits.Goals as goal
 
 pub returns-then-hex_digit-eq16 : goal.returns-then-hex_digit-eq16

@@ -1,10 +1,7 @@
-use borrow.Author.Rules.{rules}
-use Rattle.drill_words.proofs.Counting.{digits_on, digits_off, digits_end}
 use Rattle.drill_words.specs.Numbers.{hex_digits}
 use lib.ListN.{length, drop}
-use native.Mathlib.Omega.{arith}
 use Prim.Native.Nat.{◌-◌, ◌≤◌}
-use mathlib.Core.Path.{◌≡◌, refl, sym, ◌∙◌}
+use mathlib.Core.Path.{◌≡◌}
 use Rattle.drill_words.proofs.hex_digits.Given as goal
 
 abbrev pub invariant-loop-i : goal.invariant-loop-i

@@ -1,7 +1,4 @@
-use Prim.Native.Nat.{◌-◌}
 use Rattle.drill_words.specs.Numbers.{is_hex}
-use borrow.Author.Tests.{not-true, not-false}
-use borrow.Author.Rules.{rules}
 use Rattle.drill_words.proofs.is_hex.Goals as goal
 
 pub returns-then-not-hex_digits : goal.returns-then-not-hex_digits

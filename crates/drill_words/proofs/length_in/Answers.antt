@@ -1,8 +1,6 @@
 use mathlib.Core.Path.{sym}
-use Prim.Native.Nat.{◌-◌}
 use Rattle.drill_words.proofs.Finding.{word_length}
 use native.Mathlib.Omega.{arith}
-use borrow.Author.Rules.{rules}
 use Rattle.drill_words.proofs.length_in.Goals as goal
 
 pub returns : goal.returns

@@ -1,5 +1,4 @@
 use mathlib.Core.Path.{sym}
-use Prim.Native.Nat.{◌-◌}
 use Rattle.drill_words.proofs.Finding.{past_drop, past_end}
 use native.Mathlib.Omega.{arith}
 use Rattle.drill_words.proofs.next_after.Goals as goal

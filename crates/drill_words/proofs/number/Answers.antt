@@ -1,7 +1,6 @@
 use Rattle.drill_words.proofs.Digits.{no_bytes, zero_in_front, only_zero, no_zero}
 use native.Mathlib.Omega.{arith}
 use mathlib.Core.Path.{◌∙◌}
-use borrow.Author.Rules.{rules}
 use Rattle.drill_words.proofs.number.Goals as goal
 
 pub returns-then-w-eq0 : goal.returns-then-w-eq0

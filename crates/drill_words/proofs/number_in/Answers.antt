@@ -1,6 +1,4 @@
-use Prim.Native.Nat.{◌-◌}
 use Rattle.drill_words.proofs.Finding.{word_part}
-use borrow.Author.Rules.{rules}
 use Rattle.drill_words.proofs.number_in.Goals as goal
 
 pub returns : goal.returns

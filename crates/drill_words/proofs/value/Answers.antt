@@ -1,10 +1,6 @@
-use borrow.Author.Rules.{rules}
 use Rattle.drill_words.proofs.Counting.{value_turn, value_end}
-use Rattle.drill_words.specs.Numbers.{value_of}
-use lib.ListN.{length, drop}
 use native.Mathlib.Omega.{arith}
-use Prim.Native.Nat.{◌-◌, ◌≤◌}
-use mathlib.Core.Path.{◌≡◌, refl, sym, ◌∙◌}
+use mathlib.Core.Path.{refl, sym, ◌∙◌}
 use Rattle.drill_words.proofs.value.Goals as goal
 
 pub loop-i-init : goal.loop-i-init

@@ -1,10 +1,7 @@
-use borrow.Author.Rules.{rules}
-use Rattle.drill_words.proofs.Counting.{value_turn, value_end}
 use Rattle.drill_words.specs.Numbers.{value_of}
 use lib.ListN.{length, drop}
-use native.Mathlib.Omega.{arith}
 use Prim.Native.Nat.{◌-◌, ◌≤◌}
-use mathlib.Core.Path.{◌≡◌, refl, sym, ◌∙◌}
+use mathlib.Core.Path.{◌≡◌}
 use Rattle.drill_words.proofs.value.Given as goal
 
 abbrev pub invariant-loop-i : goal.invariant-loop-i

@@ -1,7 +1,5 @@
 use Rattle.drill_words.proofs.Digits.{below_digits, above_digits, too_large, one_more}
 use native.Mathlib.Omega.{arith}
-use Prim.Native.Nat.{◌-◌}
-use borrow.Author.Rules.{rules}
 use Rattle.drill_words.proofs.with_digit.Goals as goal
 
 pub returns-then-x-lt48 : goal.returns-then-x-lt48

@@ -1,11 +1,7 @@
-use mathlib.Core.Path.{◌≡◌, refl, ◌∙◌}
+use mathlib.Core.Path.{◌≡◌}
 use Prim.Native.Nat.{◌-◌, ◌≤◌}
 use lib.ListN.{length, drop}
-use Rattle.drill_words.proofs.Finding.{skip_more}
 use Rattle.drill_words.specs.Words.{skip}
-use native.Mathlib.Numerals.{add-one}
-use borrow.Author.Rules.{rules}
-use native.Mathlib.Omega.{arith}
 use Rattle.drill_words.proofs.word_start.Given as goal
 
 abbrev pub invariant-loop-j : goal.invariant-loop-j
