@@ -65,7 +65,7 @@ help:
 	@echo "make soak     whole lines of boards, of fragments and of notices, for MINUTES=10, each time with a new seed"
 	@echo "make fuzz     the calls on bytes that a coverage-guided fuzzer finds, for MINUTES=10"
 	@echo "make house    draw anew what stands on what among the crates, docs/house.svg"
-	@echo "make clean    remove build/ and target/"
+	@echo "make clean    remove build/ and each crate's out/"
 	@echo
 	@echo "one part of the tests: statement-test library-test header-test reference-test vectors-test ground-test"
 	@echo "                       board-test mailbox-test notice-test line-test notice-line-test drill-test program-test"
@@ -90,13 +90,13 @@ statement: | build
 
 build/libtumbeliko.a: $(CRATES) | build
 	@echo "proving the library (minutes, where nothing is proved yet); the prover's words go to build/staticlib.log"
-	@rt staticlib tumbeliko > build/staticlib.log 2>&1 || { tail -n 40 build/staticlib.log; exit 1; }
-	@cp target/staticlib/libtumbeliko.a $@
+	@(cd crates/tumbeliko && rt lib) > build/staticlib.log 2>&1 || { tail -n 40 build/staticlib.log; exit 1; }
+	@cp crates/tumbeliko/out/libtumbeliko.a $@
 
 build/libdrill.a: $(CRATES) | build
 	@echo "proving the drill (minutes, where nothing is proved yet); the prover's words go to build/drill-staticlib.log"
-	@rt staticlib drill > build/drill-staticlib.log 2>&1 || { tail -n 40 build/drill-staticlib.log; exit 1; }
-	@cp target/staticlib/libdrill.a $@
+	@(cd crates/drill && rt lib) > build/drill-staticlib.log 2>&1 || { tail -n 40 build/drill-staticlib.log; exit 1; }
+	@cp crates/drill/out/libdrill.a $@
 
 lib: build/libtumbeliko.a
 	@echo "the library is build/libtumbeliko.a, its header include/tumbeliko.h"
@@ -335,5 +335,5 @@ line-demo: build/line-demo
 	@echo "pictures of the three runs, for a browser: build/line-1.svg, build/line-2.svg and build/line-3.svg"
 
 clean:
-	@rm -rf build target
-	@echo "build/ and target/ are gone"
+	@rm -rf build crates/*/out
+	@echo "build/ and each crate's out/ are gone"

@@ -30,13 +30,13 @@ for line in text('crates.txt').split('\n'):
         name, deps = line.split(':', 1)
         if not groups or groups[-1][0] != title:
             groups.append((title, []))
-        groups[-1][1].append(name.strip())
-        listed[name.strip()] = deps.split()
+        groups[-1][1].append(name.split()[0])
+        listed[name.split()[0]] = deps.split()
 
 cited = {}
 for name in listed:
     whole = ''.join(text(p) for p in files(name))
-    cited[name] = [d for d in listed if d != name and re.search(rf'Rattle·{d}[.·]|(?<![\w:.]){d}::', whole)]
+    cited[name] = [d for d in listed if d != name and re.search(rf'Rattle\.{d}\.|(?<![\w:.]){d}::', whole)]
 
 wrong = [f'{n}: {d} is listed and not cited' for n in listed for d in listed[n] if d not in cited[n]]
 wrong += [f'{n}: {d} is cited and not listed' for n in listed for d in cited[n] if d not in listed[n]]

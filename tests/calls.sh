@@ -43,9 +43,9 @@ say() {
 found=$(look crates/*/src/*.rt)
 [ -z "$found" ] && say "no exported function asks anything" yes || { echo "$found"; say "no exported function asks anything" no; }
 
-sed 's/^    ensures { λ r. ⌜ r ≡ hashOf (now (string .entry)) ⌝ }/    requires { ⌜ 0 < 1 ⌝ }\n&/' crates/tumbeliko/src/lib.rt > build/calls-asking.rs
+sed 's/^    ensures { result ≡ hash_of string.now }/    requires { 0 < 1 }\n&/' crates/tumbeliko/src/lib.rt > build/calls-asking.rs
 [ "$(look build/calls-asking.rs | grep -c 'tumbeliko_hash has a requires')" = 1 ] && say "a requires is found" yes || say "a requires is found" no
-sed '/^    ensures { λ r. ⌜ r ≡ hashOf/d' crates/tumbeliko/src/lib.rt > build/calls-silent.rs
+sed '/^    ensures { result ≡ hash_of/d' crates/tumbeliko/src/lib.rt > build/calls-silent.rs
 [ "$(look build/calls-silent.rs | grep -c 'tumbeliko_hash has no ensures')" = 1 ] && say "a missing ensures is found" yes || say "a missing ensures is found" no
 
 promises crates/tumbeliko/src/lib.rt crates/drill/src/lib.rt > build/promises.txt
@@ -53,7 +53,7 @@ cmp -s build/promises.txt tests/promises.txt && say "the promises are those writ
     diff tests/promises.txt build/promises.txt || true
     say "the promises are those written down (tests/promises.txt)" no
 }
-sed 's/^    ensures { λ r. ⌜ encoded r .*/    ensures { λ r. ⌜ r .number ≡ 0 ⌝ }/' crates/tumbeliko/src/lib.rt > build/calls-weaker.rs
+sed '/^    ensures { encoded result /{N;s/.*/    ensures { result.number ≡ 0 }/}' crates/tumbeliko/src/lib.rt > build/calls-weaker.rs
 promises build/calls-weaker.rs crates/drill/src/lib.rt | cmp -s - tests/promises.txt && say "a weaker promise is found" no || say "a weaker promise is found" yes
 
 echo "$passed passed, $failed failed"

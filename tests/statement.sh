@@ -83,7 +83,7 @@ refused 'nothing of that name is declared or imported here' crates/sha256/specs/
 refused 'it has a type alone' crates/octets/specs/Bytes.antt '/^part a n s/d'
 refused 'declares no such struct, enum or variant' crates/table/src/lib.rt 's/^pub struct Table/pub struct Tables/'
 refused 'no record that is cited has such a field' crates/table/src/lib.rt 's/pub longest:/pub most:/'
-refused 'it promises nothing' crates/tumbeliko/src/lib.rt '/ensures .* hashOf /d'
+refused 'it promises nothing' crates/tumbeliko/src/lib.rt '/ensures .* hash_of /d'
 refused 'What is assumed' docs/PROMISES.md 's/^## What is assumed/## Assumed/'
 
 fresh

@@ -1,9 +1,9 @@
-"""Whose field a field is. `b .n` is a link to n of the record that b is, so types are worked out, as far as that needs."""
+"""Whose field a field is. `b.n` is a link to n of the record that b is, so types are worked out, as far as that needs."""
 from files import CONTRACT, Def, Lib, Member, Var, fault
 from terms import Node, cite, name_node, number, read
 
-# A parameter that is a reference has two sides in a contract: at the call, and at its end.
-MOMENTS = {"entry", "exit"}
+# What a parameter that is a reference leads to: at the call and at its end, or, where it cannot be written to, at both.
+MOMENTS = {"old", "new", "now"}
 
 
 def subst(t, by):
@@ -144,7 +144,7 @@ def after_args(t, args):
 def library_args(name, t):
     """The types of the arguments of a library's constructor, by the type t of the whole."""
     _, args = owner(t)
-    return {"some": args[:1], "_∷_": args[:1] + [t], "inl": args[:1], "inr": args[1:], "suc": [t]}.get(name, []) + [None] * 9
+    return {"some": args[:1], "◌∷◌": args[:1] + [t], "inl": args[:1], "inr": args[1:], "suc": [t]}.get(name, []) + [None] * 9
 
 
 class Fields:

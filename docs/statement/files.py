@@ -4,10 +4,10 @@ import re
 
 # Names of the prover's own libraries are not followed: the page lists them at its end.
 LIBRARIES = {"Prim", "mathlib", "native", "std", "text", "lib", "borrow"}
-PRELUDE = "⊥ absurd ¬_ Dec yes no Discrete ∥_∥₁ ∣_∣₁ squash₁ Unit tt Id J Path IsProp IsSet".split()
-# What a contract is lent beside them: what stands behind a reference, and a claim.
+PRELUDE = "⊥ absurd ¬◌ Dec yes no Discrete ∥◌∥₁ ∣◌∣₁ squash₁ Unit tt Id J Path IsProp IsSet".split()
+# What a contract is lent beside them: what the call returns.
 CONTRACT = "Rattle's contracts"
-LENT = ["now", "⌜_⌝"]
+LENT = ["result"]
 
 MARKS = {"unfoldable", "abbrev", "pub", "axiom"}
 WORDS = MARKS | set("data record module where let in λ Type → × : = infix infixl infixr unfolding".split())
@@ -219,7 +219,7 @@ class File:
             for path, name, here, tok in self.imported():
                 if name is None:
                     fault(self.path, tok.line, f"this page's maker cannot read an import without braces, `{'.'.join(path)}`")
-                elif path[0].startswith("Rattle·") and path[1:2] != ["specs"]:
+                elif self.book.owns(path) and path[2:3] != ["specs"]:
                     self.scope_[here] = NotShown(f"stands in {'.'.join(path)}: what a statement cites belongs into specs/")
                 else:
                     self.scope_[here] = self.book.find(self, path, name, tok)
@@ -227,11 +227,11 @@ class File:
         return self.scope_
 
     def operators(self):
-        """The operator that each part of an operator's name belongs to: ≡ to _≡_."""
+        """The operator that each part of an operator's name belongs to: ≡ to ◌≡◌."""
         if self.operators_ is None:
             self.operators_ = {}
             for name in self.scope():
-                for part in filter(None, name.split("_") if "_" in name else []):
+                for part in filter(None, name.split("◌") if "◌" in name else []):
                     self.operators_.setdefault(part, name)
         return self.operators_
 
@@ -433,17 +433,21 @@ class Book:
     def struct(self, crate, name):
         return next((s.structs[name] for s in self.crate(crate) if name in s.structs), None)
 
+    def owns(self, path):
+        """Whether a path begins with a crate of this repository: Rattle.CRATE."""
+        return path[0] == "Rattle" and len(path) > 1 and os.path.isdir(os.path.join(self.root, "crates", path[1]))
+
     def find(self, file, path, name, tok):
-        """What an import brings. The path begins with a library or with a crate, Rattle·CRATE or Rattle·CRATE·specs."""
-        if path[0] in LIBRARIES:
+        """What an import brings. The path begins with a library or with a crate, Rattle.CRATE; Rattle.std is a library."""
+        if path[0] in LIBRARIES or path[:2] == ["Rattle", "std"]:
             return Lib(".".join(path), name)
-        if not path[0].startswith("Rattle·") or len(path) < 3:
+        if path[0] != "Rattle" or len(path) < 4:
             fault(file.path, tok.line, f"`{name}` is imported from {'.'.join(path)}, which is no library and no crate's module")
             return None
-        crate, folder, rest = path[0].split("·")[1], path[1], path[2:]
+        crate, folder, rest = path[1], path[2], path[3:]
         if rest[0] == "declared":
             found = self.struct(crate, rest[1]) if len(rest) > 1 else None
-            if found and rest[2:] == ["the-variants"]:
+            if found and rest[2:] == ["TheVariants"]:
                 found = found.member(name)
             if found is None or found.name != name:
                 fault(file.path, tok.line, f"`{name}` is imported, and crate {crate} declares no such struct, enum or variant")

@@ -19,11 +19,11 @@ from terms import read
 
 # What the page states: crate, folder and module, name. Of a theorem in proofs/ it shows what it says, not its proof.
 STATEMENT = [
-    ("line_demand", "proofs.Demand", "demand-three"),
+    ("line_demand", "proofs.Demand", "demand_three"),
     ("line_demand", "specs.Demand", "DemandThree"),
-    ("line_mailbox", "proofs.Demand", "demand-three-polled"),
+    ("line_mailbox", "proofs.Demand", "demand_three_polled"),
     ("line_mailbox", "specs.Demand", "DemandThreePolled"),
-    ("line_notice", "proofs.Demand", "demand-three-notices"),
+    ("line_notice", "proofs.Demand", "demand_three_notices"),
     ("line_notice", "specs.Demand", "DemandThreeNotices"),
 ]
 

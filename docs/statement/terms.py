@@ -2,7 +2,7 @@
 from files import MARKS, RUST, UNKNOWN, WORDS, Def, Lib, Member, NotShown, Source, Tok, Var, Wrong, fault
 
 # Constructors of the libraries: a bare name of a pattern is a constructor, or a variable.
-CONSTRUCTORS = {"zero", "suc", "true", "false", "some", "none", "[]", "_∷_", "inl", "inr", "tt", "yes", "no"}
+CONSTRUCTORS = {"zero", "suc", "true", "false", "some", "none", "[]", "◌∷◌", "inl", "inr", "tt", "yes", "no"}
 
 # Words that no argument begins with.
 STOPS = {"→", "×", ":", "=", "in", "where", "|", "]", "↦"}
@@ -222,20 +222,15 @@ class Reader:
 
     def application(self, env):
         fn, args = self.atom(env), []
-        while True:
-            if self.at(".") and self.peek(1).kind in ("name", "escaped"):
-                # f x .g is a field of f x
-                self.take()
-                fn, args = Node("proj", expr=Node("app", fn=fn, args=args) if args else fn, tok=self.take()), []
-            elif self.operator(env) is None and self.starts_atom():
-                args.append(self.atom(env))
-            else:
-                return Node("app", fn=fn, args=args) if args else fn
+        while self.operator(env) is None and self.starts_atom():
+            args.append(self.atom(env))
+        return Node("app", fn=fn, args=args) if args else fn
 
     def atom(self, env):
         t = self.peek()
         if t.kind == "punct":
-            return self.braces(env) if t.text == "{" else self.brackets(env)
+            # (f x).g is a field of f x
+            return self.braces(env) if t.text == "{" else self.fields(self.brackets(env))
         if t.kind == "string" or number(t) or t.text == "_":
             self.take()
             return Node("literal")
@@ -249,7 +244,9 @@ class Reader:
             return Node("literal")
         if t.kind == "name" and t.text in UNKNOWN | WORDS:
             self.wrong("this page's maker cannot read on")
-        node = self.name(env)
+        return self.fields(self.name(env))
+
+    def fields(self, node):
         while self.tight():
             self.take(".")
             node = Node("proj", expr=node, tok=self.take())
@@ -417,8 +414,8 @@ def read_function(d):
             continue
         inner, patterns = dict(env), []
         while not r.at("="):
-            # f x y, or x + y of an operator _+_
-            if r.i == 0 and r.at(d.name) or "_" in d.name and r.at(*filter(None, d.name.split("_"))):
+            # f x y, or x + y of an operator ◌+◌
+            if r.i == 0 and r.at(d.name) or "◌" in d.name and r.at(*filter(None, d.name.split("◌"))):
                 r.take().role = "own"
             else:
                 patterns.append(r.pattern(inner))
