@@ -1,11 +1,11 @@
 #!/usr/bin/env python3
 """Respells the repository's own definitions and lemmas: words in snake case, types and modules in camel case.
 
-usage: python3 tools/respell.py [--check] [--docs]      at the top of the repository, after port.py, once
+usage: python3 tools/respell.py [--check]      at the top of the repository, after port.py, once
 
 It turns the names of crates/*/specs and crates/*/proofs, and their uses in the clauses of crates/*/src: `twoAt` and `put-two` become `two_at` and
 `put_two`. What a file imports from a library that is not the repository's keeps its spelling, and so does all Rust. With --check it writes nothing,
-and lists names that would fall together. --docs turns code spans of the pages too. The last lines list what must be looked at by hand.
+and lists names that would fall together. The last lines list what must be looked at by hand.
 """
 import collections
 import glob
