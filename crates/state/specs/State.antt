@@ -11,8 +11,8 @@ abbrev pub fixed_bytes : ℕ
 fixed_bytes = 4608
 
 -- where the own number stands, after the table's n, t and S, the first three bytes
-abbrev pub field_own : ℕ
-field_own = 3
+abbrev pub own_at : ℕ
+own_at = 3
 
 -- where L stands, in two bytes
 abbrev pub longest_at : ℕ
@@ -76,7 +76,7 @@ table_of s = record { n = get_or s 0 0; t = get_or s 1 0; sender = get_or s 2 0;
 
 -- "the own number goes beside it at a start and in a state"
 unfoldable pub own_of : List ℕ → ℕ
-own_of s = get_or s field_own 0
+own_of s = get_or s own_at 0
 
 -- four flags; "boards heard are kept as 64-bit sets"
 unfoldable pub marks_of : List ℕ → Marks
