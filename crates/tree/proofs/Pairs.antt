@@ -1,6 +1,6 @@
 -- A pair of hashes, filled in two halves: the string that is hashed for a node, after its prefix.
 -- Assumes nothing.
-use Prim.Native.Nat.{ℕ, ◌+◌, ◌-◌}
+use Prim.Native.Nat.{ℕ, ◌-◌}
 use mathlib.Core.Path.{◌≡◌, sym, ◌∙◌}
 use mathlib.Core.List.{List, ◌++◌}
 use native.Mathlib.Omega.{arith}

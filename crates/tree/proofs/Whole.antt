@@ -100,17 +100,38 @@ module _ (H : List ℕ → List ℕ) (fs : ℕ → List ℕ) where
   Complete t i = climb H (λ j. get_or (path H fs t i) j []) t i (fs (leaf_at t i)) ≡ root H fs t
 
   module _ (k : ℕ) (l r : Tree) (i : ℕ) where
+    leaf_side : (b : Bool) → ltb i k ≡ b → leaf_at (fork k l r) i ≡ pick b (leaf_at l i) (leaf_at r i)
+    unfolding leaf_at
+    leaf_side b e = rw e
+
+    path_side : (b : Bool) → ltb i k ≡ b → path H fs (fork k l r) i ≡ pick b (path H fs l i ++ (root H fs r ∷ [])) (path H fs r i ++ (root H fs l ∷ []))
+    unfolding path
+    path_side b e = rw e
+
+    climb_side : (ps : ℕ → List ℕ) (f : List ℕ) (b : Bool) → ltb i k ≡ b
+        → climb H ps (fork k l r) i f ≡ pick b (node_hash H (climb H ps l i f) (ps (depth l i))) (node_hash H (ps (depth r i)) (climb H ps r i f))
+    unfolding climb
+    climb_side ps f b e = rw e
+
     on_left : ltb i k ≡ true → Complete l i → Complete (fork k l r) i
-    unfolding climb path root leaf_at pick
+    unfolding root pick
     on_left e h =
-        rw e
-        (ap₂ (node_hash H) (more l i (root H fs r) (fs (leaf_at l i)) ∙ h) (get_or_at (path H fs l i) (root H fs r) [] [] (depth l i) (length_path l i)))
+        climb_side (λ j. get_or (path H fs (fork k l r) i) j []) (fs (leaf_at (fork k l r) i)) true e
+        ∙ ap₂ (node_hash H)
+        (ap₂ (λ (p : List (List ℕ)) (x : ℕ). climb H (λ j. get_or p j []) l i (fs x)) (path_side true e) (leaf_side true e)
+        ∙ more l i (root H fs r) (fs (leaf_at l i)) ∙ h)
+        (ap (λ (p : List (List ℕ)). get_or p (depth l i) []) (path_side true e)
+        ∙ get_or_at (path H fs l i) (root H fs r) [] [] (depth l i) (length_path l i))
 
     on_right : ltb i k ≡ false → Complete r i → Complete (fork k l r) i
-    unfolding climb path root leaf_at pick
+    unfolding root pick
     on_right e h =
-        rw e
-        (ap₂ (node_hash H) (get_or_at (path H fs r i) (root H fs l) [] [] (depth r i) (length_path r i)) (more r i (root H fs l) (fs (leaf_at r i)) ∙ h))
+        climb_side (λ j. get_or (path H fs (fork k l r) i) j []) (fs (leaf_at (fork k l r) i)) false e
+        ∙ ap₂ (node_hash H)
+        (ap (λ (p : List (List ℕ)). get_or p (depth r i) []) (path_side false e)
+        ∙ get_or_at (path H fs r i) (root H fs l) [] [] (depth r i) (length_path r i))
+        (ap₂ (λ (p : List (List ℕ)) (x : ℕ). climb H (λ j. get_or p j []) r i (fs x)) (path_side false e) (leaf_side false e)
+        ∙ more r i (root H fs l) (fs (leaf_at r i)) ∙ h)
 
     by_side : (b : Bool) → ltb i k ≡ b → Complete l i → Complete r i → Complete (fork k l r) i
     by_side true e left right = on_left e left
