@@ -1,6 +1,6 @@
 -- Working definitions of the steps of rebuilding: rows of k bytes that give the fragments in an area.
 -- Assumes nothing.
-use Rattle.std.specs.Prelude.{◌≡◌, List, map, ℕ, ◌+◌, ◌-◌, ◌*◌, ◌<◌, ◌≤◌, length, get_or}
+use Rattle.std.specs.Prelude.{◌≡◌, List, map, ℕ, ◌+◌, ◌*◌, ◌<◌, ◌≤◌, length, get_or}
 use Rattle.code_sum.specs.Sums.{cell}
 use Rattle.field.specs.Field.{add, mul}
 use Rattle.code.specs.Code.{All, Byte, value, row}

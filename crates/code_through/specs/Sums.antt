@@ -1,6 +1,6 @@
 -- Working definitions of rebuilding by weights: each coefficient of a row is a sum of its known bytes, each times a weight.
 -- Assumes nothing.
-use Rattle.std.specs.Prelude.{◌≡◌, ◌≢◌, Bool, true, false, List, [], ◌∷◌, ℕ, zero, suc, ◌+◌, ◌*◌, ◌<◌, ◌≤◌, length, get_or, drop}
+use Rattle.std.specs.Prelude.{◌≡◌, ◌≢◌, Bool, true, false, List, [], ◌∷◌, ℕ, suc, ◌+◌, ◌*◌, ◌<◌, ◌≤◌, length, get_or, drop}
 use Rattle.field.specs.Field.{add, mul}
 use Rattle.code.specs.Code.{value}
 use Rattle.code_sum.specs.Sums.{cell, weighed}
