@@ -1,11 +1,9 @@
 use Rattle.mailbox.proofs.Framing.{framed_many}
-use mathlib.Core.Path.{◌≡◌, sym, ◌∙◌}
-use Prim.Native.Nat.{◌≤◌, ◌-◌}
+use mathlib.Core.Path.{sym, ◌∙◌}
 use native.Mathlib.Omega.{arith}
 use native.Mathlib.Nat.{sub-zero}
 use borrow.Author.Tests.{lt-leb}
-use lib.ListN.{length}
-use Rattle.mailbox.specs.Items.{complete, framed}
+use Rattle.mailbox.specs.Items.{framed}
 use Rattle.mailbox.proofs.Framing.{complete_next, complete_cut, complete_last, framed_by}
 use Rattle.mailbox.proofs.is_framed.Goals as goal
 

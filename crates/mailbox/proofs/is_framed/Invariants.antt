@@ -1,12 +1,7 @@
-use Rattle.mailbox.proofs.Framing.{framed_many}
-use mathlib.Core.Path.{◌≡◌, sym, ◌∙◌}
+use mathlib.Core.Path.{◌≡◌}
 use Prim.Native.Nat.{◌≤◌, ◌-◌}
-use native.Mathlib.Omega.{arith}
-use native.Mathlib.Nat.{sub-zero}
-use borrow.Author.Tests.{lt-leb}
 use lib.ListN.{length}
 use Rattle.mailbox.specs.Items.{complete, framed}
-use Rattle.mailbox.proofs.Framing.{complete_next, complete_cut, complete_last, framed_by}
 use Rattle.mailbox.proofs.is_framed.Given as goal
 
 abbrev pub invariant-loop-i : goal.invariant-loop-i

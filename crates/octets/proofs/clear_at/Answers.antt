@@ -1,9 +1,7 @@
-use mathlib.Core.Path.{◌≡◌, refl, ◌∙◌, sym}
-use Prim.Native.Nat.{◌+◌, ◌≤◌, ◌-◌}
+use mathlib.Core.Path.{refl, ◌∙◌, sym}
 use native.Mathlib.Omega.{arith}
 use native.Mathlib.Nat.{add-zero, sub-zero}
-use lib.ListN.{length, length-set, replicate}
-use Rattle.octets.specs.Bytes.{put}
+use lib.ListN.{length-set}
 use Rattle.octets.proofs.Laws.{clear_turn, clear_end}
 use Rattle.octets.proofs.clear_at.Goals as goal
 

@@ -1,10 +1,7 @@
-use mathlib.Core.Path.{◌≡◌, refl, ◌∙◌, sym}
+use mathlib.Core.Path.{◌≡◌}
 use Prim.Native.Nat.{◌+◌, ◌≤◌, ◌-◌}
-use native.Mathlib.Omega.{arith}
-use native.Mathlib.Nat.{add-zero, sub-zero}
-use lib.ListN.{length, length-set, replicate}
+use lib.ListN.{length, replicate}
 use Rattle.octets.specs.Bytes.{put}
-use Rattle.octets.proofs.Laws.{clear_turn, clear_end}
 use Rattle.octets.proofs.clear_at.Given as goal
 
 abbrev pub invariant-loop-i : goal.invariant-loop-i

@@ -1,9 +1,7 @@
-use mathlib.Core.Path.{◌≡◌, refl, ◌∙◌, sym}
-use Prim.Native.Nat.{◌+◌, ◌≤◌, ◌-◌}
+use mathlib.Core.Path.{refl, ◌∙◌, sym}
 use native.Mathlib.Omega.{arith}
 use native.Mathlib.Nat.{add-zero}
-use lib.ListN.{length, drop, length-set}
-use Rattle.octets.specs.Bytes.{put}
+use lib.ListN.{length-set}
 use Rattle.octets.proofs.Laws.{put_turn, put_end}
 use Rattle.octets.proofs.copy_at.Goals as goal
 

@@ -1,6 +1,5 @@
 use native.Mathlib.Omega.{arith}
 use Rattle.octets.specs.Bytes.{eight_at}
-use borrow.Author.Rules.{rules}
 use Rattle.octets.proofs.eight_at.Goals as goal
 
 pub returns : goal.returns

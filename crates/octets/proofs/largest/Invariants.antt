@@ -1,9 +1,6 @@
 -- `octets::largest` meets its contract. The loop's invariant: none of the first i is larger.
 -- Assumes nothing.
-use borrow.Author.Count.{below_more}
 use Prim.Native.Nat.{ℕ, ◌-◌, ◌<◌, ◌≤◌}
-use native.Mathlib.Omega.{arith}
-use native.Mathlib.Nat as N
 use lib.ListN.{get_or}
 use Rattle.octets.proofs.largest.Given as goal
 

@@ -1,7 +1,6 @@
 use Rattle.octets.specs.Bytes.{four}
 use Prim.Native.Nat.{◌/◌, ◌%◌}
 use Rattle.octets.proofs.Laws.{put_put}
-use borrow.Author.Rules.{rules}
 use Rattle.octets.proofs.put_eight.Goals as goal
 
 pub returns : goal.returns

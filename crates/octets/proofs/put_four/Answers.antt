@@ -1,7 +1,6 @@
 use Rattle.octets.specs.Bytes.{two}
 use Prim.Native.Nat.{◌/◌, ◌%◌}
 use Rattle.octets.proofs.Laws.{put_put}
-use borrow.Author.Rules.{rules}
 use Rattle.octets.proofs.put_four.Goals as goal
 
 pub returns : goal.returns

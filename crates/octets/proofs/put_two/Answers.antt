@@ -1,6 +1,5 @@
 use native.Mathlib.Numerals.{add-one}
 use Rattle.octets.specs.Bytes.{put}
-use borrow.Author.Rules.{rules}
 use Rattle.octets.proofs.put_two.Goals as goal
 
 pub returns : goal.returns

@@ -1,9 +1,6 @@
-use mathlib.Core.Path.{◌≡◌, ◌∙◌, sym}
-use Prim.Native.Nat.{◌+◌, ◌≤◌, ◌-◌}
+use mathlib.Core.Path.{◌∙◌, sym}
 use native.Mathlib.Omega.{arith}
 use native.Mathlib.Nat.{add-zero, sub-zero}
-use borrow.Author.Tests.{not-true, not-false}
-use Rattle.octets.specs.Bytes.{part, same}
 use Rattle.octets.proofs.Eights.{eights_turn, eights_differ}
 use Rattle.octets.proofs.same_at.Goals as goal
 

@@ -1,7 +1,6 @@
 use mathlib.Core.Path.{sym, ap₂, ◌∙◌}
 use lib.Dec.{eqb}
 use native.Mathlib.Omega.{arith}
-use borrow.Author.Rules.{rules}
 use borrow.Author.Tests.{eq-eqb, ne_eqb}
 use Rattle.octets.proofs.Eights.{same_eight}
 use Rattle.octets.proofs.Picks.{and_pass, and_stop}

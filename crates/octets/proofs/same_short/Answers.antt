@@ -1,8 +1,6 @@
-use mathlib.Core.Path.{◌≡◌, ◌∙◌, sym}
-use Prim.Native.Nat.{◌+◌, ◌≤◌, ◌-◌}
+use mathlib.Core.Path.{◌∙◌, sym}
 use native.Mathlib.Omega.{arith}
 use native.Mathlib.Nat.{add-zero, sub-zero}
-use Rattle.octets.specs.Bytes.{part, same}
 use Rattle.octets.proofs.Laws.{same_turn, same_differ, same_end}
 use Rattle.octets.proofs.same_short.Goals as goal
 

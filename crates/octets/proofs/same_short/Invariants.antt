@@ -1,9 +1,6 @@
-use mathlib.Core.Path.{◌≡◌, ◌∙◌, sym}
+use mathlib.Core.Path.{◌≡◌}
 use Prim.Native.Nat.{◌+◌, ◌≤◌, ◌-◌}
-use native.Mathlib.Omega.{arith}
-use native.Mathlib.Nat.{add-zero, sub-zero}
 use Rattle.octets.specs.Bytes.{part, same}
-use Rattle.octets.proofs.Laws.{same_turn, same_differ, same_end}
 use Rattle.octets.proofs.same_short.Given as goal
 
 abbrev pub invariant-loop-i : goal.invariant-loop-i

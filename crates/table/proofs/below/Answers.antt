@@ -3,7 +3,6 @@ use native.Mathlib.Omega.{arith}
 use native.Mathlib.Nat.{div-eq_of_lt}
 use mathlib.Core.Path.{sym}
 use borrow.Author.Tests.{eq-eqb}
-use borrow.Author.Rules.{rules}
 use Rattle.table.proofs.below.Goals as goal
 
 pub returns-then-n-eq64 : goal.returns-then-n-eq64

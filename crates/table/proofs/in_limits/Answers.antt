@@ -3,7 +3,6 @@ use borrow.Author.Tests.{le-ltb}
 use Prim.Native.Nat.{◌*◌}
 use Rattle.table.specs.Table.{limits}
 use Rattle.octets.proofs.Picks.{picks}
-use borrow.Author.Rules.{rules}
 use Rattle.table.proofs.in_limits.Goals as goal
 
 pub returns-then-b-lt1 : goal.returns-then-b-lt1
