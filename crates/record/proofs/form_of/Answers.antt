@@ -1,10 +1,8 @@
 use native.Mathlib.Omega.{arith}
 use mathlib.Core.Path.{sym, ◌∙◌}
-use borrow.Author.Tests.{not-false}
 use Rattle.octets.proofs.Picks.{picks}
 use Rattle.record.specs.Form.{form_of}
 use Rattle.record.proofs.PartLaws.{kind_few, path_most}
-use borrow.Author.Rules.{rules}
 use Rattle.record.proofs.form_of.Goals as goal
 
 pub returns-then-not-is_kind : goal.returns-then-not-is_kind

@@ -1,6 +1,5 @@
 use Rattle.octets.proofs.Picks.{picks}
 use Rattle.record.specs.Form.{parse_fragment}
-use borrow.Author.Rules.{rules}
 use Rattle.record.proofs.read_fragment.Goals as goal
 
 pub returns-then-s-at : goal.returns-then-s-at

@@ -1,7 +1,5 @@
 use Rattle.octets.proofs.Picks.{picks}
 use Rattle.record.specs.Form.{parse_path}
-use native.Mathlib.Omega.{arith}
-use borrow.Author.Rules.{rules}
 use Rattle.record.proofs.read_path.Goals as goal
 
 pub returns-then-s-lt37 : goal.returns-then-s-lt37

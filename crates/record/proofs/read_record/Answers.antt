@@ -3,7 +3,6 @@ use native.Mathlib.Omega.{arith}
 use mathlib.Core.Path.{◌∙◌}
 use Rattle.record.specs.Form.{parse}
 use Rattle.record.proofs.KindByte.{parse_kind, parse_low, parse_high}
-use borrow.Author.Rules.{rules}
 use Rattle.record.proofs.read_record.Goals as goal
 
 pub returns-then-s-lt1 : goal.returns-then-s-lt1

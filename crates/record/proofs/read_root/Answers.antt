@@ -1,6 +1,5 @@
 use Rattle.octets.proofs.Picks.{picks}
 use Rattle.record.specs.Form.{parse_root}
-use borrow.Author.Rules.{rules}
 use Rattle.record.proofs.read_root.Goals as goal
 
 pub returns-then-s-lt3 : goal.returns-then-s-lt3

@@ -1,6 +1,5 @@
 use Rattle.octets.proofs.Picks.{picks}
 use Rattle.record.specs.Form.{path_ok}
-use borrow.Author.Rules.{rules}
 use Rattle.record.proofs.whole_nodes.Goals as goal
 
 pub returns-then-path-ne0 : goal.returns-then-path-ne0

@@ -2,7 +2,6 @@ use lib.ListN.{length-set}
 use native.Mathlib.Omega.{arith}
 use Rattle.octets.proofs.Laws.{length_put}
 use Rattle.record.proofs.Writes.{written}
-use borrow.Author.Rules.{rules}
 use Rattle.record.proofs.write_parts.Goals as goal
 
 pub bounds-out-1 : goal.bounds-out-1
