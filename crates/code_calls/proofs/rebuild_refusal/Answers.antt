@@ -8,7 +8,7 @@ use Rattle.code_calls.proofs.rebuild_refusal.Goals as goal
 
 pub returns-then-not-in_limits : goal.returns-then-not-in_limits
 unfolding rebuild_refusal pick
-returns-then-not-in_limits c = rw (← c.in_limits.ensures, c.if-not-in_limits.true-raw)
+returns-then-not-in_limits c = rw (← c.in_limits.ensures, c.if-not-in_limits.true)
 
 pub fragments_needed-k-requires : goal.fragments_needed-k-requires
 fragments_needed-k-requires c = sym c.in_limits.ensures ∙ c.if-not-in_limits.false
@@ -22,7 +22,7 @@ short-requires c =
 
 pub returns-then-short : goal.returns-then-short
 unfolding rebuild_refusal pick
-returns-then-short c = rw (← c.in_limits.ensures, c.if-not-in_limits.false-raw, ← c.fragments_needed-k.ensures.0, ← c.fragment_most-most.ensures.0, ← c.short.ensures, c.if-short.true)
+returns-then-short c = rw (← c.in_limits.ensures, c.if-not-in_limits.false, ← c.fragments_needed-k.ensures.0, ← c.fragment_most-most.ensures.0, ← c.short.ensures, c.if-short.true)
 
 pub below-requires : goal.below-requires
 below-requires c = (within _ (sym c.in_limits.ensures ∙ c.if-not-in_limits.false)).few
@@ -32,13 +32,13 @@ unfolding rebuild_refusal pick
 returns-then-not-below c =
     rw (
       ← c.in_limits.ensures,
-      c.if-not-in_limits.false-raw,
+      c.if-not-in_limits.false,
       ← c.fragments_needed-k.ensures.0,
       ← c.fragment_most-most.ensures.0,
       ← c.short.ensures,
       c.if-short.false,
       ← c.below.ensures,
-      c.if-not-below.true-raw,
+      c.if-not-below.true,
     )
 
 pub by_lengths-requires : goal.by_lengths-requires
@@ -52,12 +52,12 @@ unfolding rebuild_refusal pick
 returns c =
     rw (
       ← c.in_limits.ensures,
-      c.if-not-in_limits.false-raw,
+      c.if-not-in_limits.false,
       ← c.fragments_needed-k.ensures.0,
       ← c.fragment_most-most.ensures.0,
       ← c.short.ensures,
       c.if-short.false,
       ← c.below.ensures,
-      c.if-not-below.false-raw,
+      c.if-not-below.false,
       ← c.by_lengths.ensures,
     )
