@@ -17,7 +17,7 @@ loop-b-init c =
       omega arith,
       refl,
       refl,
-      λ d h. omega (arith, c.slice_known-2-1.given d),
+      λ d h. omega (arith, c.type_inv.column d),
       owing_start a.at a.count a.s a.n a.powers.now a.column.now a.area.now,
     )
 
@@ -47,7 +47,7 @@ pub returns-then-most-b-lt2 : goal.returns-then-most-b-lt2
 returns-then-most-b-lt2 c =
     let largest = c.largest-most in let a = c.args in let l = c.loop-b in
     owing_end a.at a.count a.s a.n a.powers.now a.column.now a.area.now l.b largest.result l.column c.add_marked.new.area largest.ensures (omega arith)
-    (owing_bit a.at a.count a.s a.n a.powers.now a.column.now a.area.now l.b l.column l.area c.add_marked.new.area (λ i. omega (arith, c.shared_slice_known-1.given i)) l.invariant.3 l.invariant.4 c.add_marked.ensures)
+    (owing_bit a.at a.count a.s a.n a.powers.now a.column.now a.area.now l.b l.column l.area c.add_marked.new.area (λ i. omega (arith, c.type_inv.powers i)) l.invariant.3 l.invariant.4 c.add_marked.ensures)
 
 pub overflow_add-b : goal.overflow_add-b
 overflow_add-b c = omega (arith, c.loop-b.invariant.0)
@@ -66,5 +66,5 @@ loop-b-preserved c =
       c.double_all.auto.s ∙ l.invariant.2,
       λ d h. subst (λ (v : ℕ). v < 256) (sym (twice d h)) (double_lt (get_or l.column d 0) (l.invariant.3 d h)),
       owing_next a.at a.count a.s a.n a.powers.now a.column.now a.area.now l.b l.column doubled add_marked.new.area twice
-          (owing_bit a.at a.count a.s a.n a.powers.now a.column.now a.area.now l.b l.column l.area add_marked.new.area (λ i. omega (arith, c.shared_slice_known-1.given i)) l.invariant.3 l.invariant.4 add_marked.ensures),
+          (owing_bit a.at a.count a.s a.n a.powers.now a.column.now a.area.now l.b l.column l.area add_marked.new.area (λ i. omega (arith, c.type_inv.powers i)) l.invariant.3 l.invariant.4 add_marked.ensures),
     )

@@ -35,9 +35,9 @@ loop-i-preserved c =
       omega arith,
       w.auto.ws ∙ l.invariant.2,
       g.auto.sum ∙ l.invariant.3,
-      good_next a.area.now a.s a.points.now a.m.now a.ds.now c.requires.5 c.requires.3 (λ i. omega (arith, c.shared_slice_known-2-1.given i))
-          (λ i. omega (arith, c.shared_slice_known-4-1.given i)) c.requires.7
-          (λ i. omega (arith, c.shared_slice_known-1.given i)) a.marked.now a.count c.requires.4 l.i w.new.ws (w.ensures a.m.now c.requires.5 c.requires.7)
+      good_next a.area.now a.s a.points.now a.m.now a.ds.now c.requires.5 c.requires.3 (λ i. omega (arith, c.type_inv.points i))
+          (λ i. omega (arith, c.type_inv.m i)) c.requires.7
+          (λ i. omega (arith, c.type_inv.area i)) a.marked.now a.count c.requires.4 l.i w.new.ws (w.ensures a.m.now c.requires.5 c.requires.7)
           l.invariant.4 (g.ensures.yes c.if-column_agrees.true),
     )
 
@@ -53,9 +53,9 @@ returns-else-column_agrees c =
     let w = c.weights_at in let g = c.column_agrees in record {
       yes = λ e. absurd (false≢true e);
       no = λ e.
-          bad a.area.now a.s a.points.now a.m.now a.ds.now c.requires.5 c.requires.3 (λ i. omega (arith, c.shared_slice_known-2-1.given i))
-          (λ i. omega (arith, c.shared_slice_known-4-1.given i)) c.requires.7
-          (λ i. omega (arith, c.shared_slice_known-1.given i)) a.marked.now a.count c.requires.4 l.i w.new.ws
+          bad a.area.now a.s a.points.now a.m.now a.ds.now c.requires.5 c.requires.3 (λ i. omega (arith, c.type_inv.points i))
+          (λ i. omega (arith, c.type_inv.m i)) c.requires.7
+          (λ i. omega (arith, c.type_inv.area i)) a.marked.now a.count c.requires.4 l.i w.new.ws
           (omega (arith, l.invariant.0, c.loop-i-test.true)) (w.ensures a.m.now c.requires.5 c.requires.7) (g.ensures.no c.if-column_agrees.false);
     }
 
@@ -71,8 +71,8 @@ returns c =
     let l = c.loop-i in
     let z : l.i ≡ length a.marked.now = omega arith in record {
       yes = λ e. good_end a.area.now a.s a.points.now a.m.now a.ds.now c.requires.5 c.requires.3
-          (λ i. omega (arith, c.shared_slice_known-2-1.given i)) (λ i. omega (arith, c.shared_slice_known-4-1.given i)) c.requires.7
-          (λ i. omega (arith, c.shared_slice_known-1.given i)) a.marked.now a.count c.requires.4
+          (λ i. omega (arith, c.type_inv.points i)) (λ i. omega (arith, c.type_inv.m i)) c.requires.7
+          (λ i. omega (arith, c.type_inv.area i)) a.marked.now a.count c.requires.4
           (subst (Good a.area.now a.s a.points.now a.m.now a.ds.now a.marked.now a.count) z l.invariant.4);
       no = λ e. absurd (false≢true (sym e));
     }

@@ -61,6 +61,6 @@ returns c =
     let l = c.loop-i in
     let z : l.i ≡ 0 = omega arith in
     filled_rows a.area.now a.s a.points.now a.m.now a.ds.now a.count a.out.now c.requires.6 c.requires.3
-    (λ i. omega (arith, c.shared_slice_known-2-1.given i)) (λ i. omega (arith, c.shared_slice_known-3-1.given i)) c.requires.8
-    (λ i. omega (arith, c.shared_slice_known-1.given i)) l.out (omega (arith, c.requires.5, l.invariant.1))
+    (λ i. omega (arith, c.type_inv.points i)) (λ i. omega (arith, c.type_inv.m i)) c.requires.8
+    (λ i. omega (arith, c.type_inv.area i)) l.out (omega (arith, c.requires.5, l.invariant.1))
     (subst (λ (i : ℕ). Filled a.area.now a.s a.points.now a.m.now a.ds.now a.count i a.out.now l.out) z l.invariant.5)

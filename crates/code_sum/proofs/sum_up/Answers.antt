@@ -32,8 +32,8 @@ loop-b-preserved c =
           g.ensures i h
           ∙ ap (λ (t : ℕ). add t (picked a.area.now a.s a.points.now a.ws.now (l.b - 1) (a.c + i) (length a.points.now))) (d.ensures i h ∙ ap double (l.invariant.2 i h ∙ ap (λ (b : ℕ). upper a.area.now a.s a.points.now a.ws.now b (a.c + i) (length a.points.now)) (sym e)))
           ∙ sym
-          (upper_next a.area.now a.s a.points.now a.ws.now (a.c + i) (length a.points.now) (l.b - 1) (λ q. omega (arith, c.shared_slice_known-1.given q))
-          (λ q. omega (arith, c.shared_slice_known-3-1.given q))),
+          (upper_next a.area.now a.s a.points.now a.ws.now (a.c + i) (length a.points.now) (l.b - 1) (λ q. omega (arith, c.type_inv.area q))
+          (λ q. omega (arith, c.type_inv.ws q))),
     )
 
 pub shape_of-sum : goal.shape_of-sum

@@ -11,7 +11,7 @@ use Rattle.code_through.proofs.Weights.{differences_root, newton_differences, lo
 use Rattle.code_through.proofs.master.Goals as goal
 
 pub loop-j-init : goal.loop-j-init
-loop-j-init c = (omega arith, c.requires.2, master_start c.args.points.now c.args.row.now c.requires.0, λ i. omega (arith, c.slice_known-1.given i))
+loop-j-init c = (omega arith, c.requires.2, master_start c.args.points.now c.args.row.now c.requires.0, λ i. omega (arith, c.type_inv.row i))
 
 pub attach-requires : goal.attach-requires
 attach-requires c = omega (arith, c.loop-j.invariant.2.size, c.requires.0)
@@ -29,7 +29,7 @@ loop-j-preserved c =
       expanded_next (a.points.now ++ 0 ∷ []) a.row.now l.row d.new.row (l.j - 1) (longer a.points.now a.row.now c.requires.0) e k
           (omega (arith, l.invariant.2.size, c.requires.0))
           (subst (λ (x : ℕ). Attached x (l.j - 1) l.row d.new.row) (sym (point a.points.now a.row.now c.requires.0 (l.j - 1) (omega arith))) d.ensures),
-      λ i. omega (arith, c.slice_known-in-loop-j-1.given i),
+      λ i. omega (arith, c.type_inv.row i),
     )
 
 pub shape_of-row : goal.shape_of-row

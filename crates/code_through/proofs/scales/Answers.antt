@@ -16,4 +16,4 @@ returns c =
     λ j h.
     let e = slopes.ensures j h in
     subst (λ (v : ℕ). mul v (get_or c.invert_all.new.xs j 0) ≡ 1) e
-    (c.invert_all.ensures j (omega (arith, slopes.auto.ds, p.3)) (subst (λ (v : ℕ). 0 < v) (sym e) (N.pos_of_ne-zero (nonzero a.points.now a.m.now p.0 p.1 (λ i. omega (arith, c.shared_slice_known-1.given i)) p.0.small j h))))
+    (c.invert_all.ensures j (omega (arith, slopes.auto.ds, p.3)) (subst (λ (v : ℕ). 0 < v) (sym e) (N.pos_of_ne-zero (nonzero a.points.now a.m.now p.0 p.1 (λ i. omega (arith, c.type_inv.points i)) p.0.small j h))))
