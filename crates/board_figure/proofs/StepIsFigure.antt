@@ -1,6 +1,6 @@
 -- An accepted step is figure 5: the record is received, then every branch that is enabled fires until none is.
 use mathlib.Core.Path.{◌≡◌, refl, sym, subst, ap, ◌∙◌}
-use Prim.Native.Nat.{ℕ, zero, suc, ◌+◌, ◌-◌, ◌≤◌, ◌<◌}
+use Prim.Native.Nat.{ℕ, zero, suc, ◌-◌, ◌≤◌, ◌<◌}
 use mathlib.Core.List.{List, ◌++◌}
 use mathlib.Core.Bool.{Bool, true, false, not, ◌&&◌}
 use mathlib.Core.Option.{none}
@@ -16,7 +16,6 @@ use Rattle.code.specs.Code.{All, Byte}
 use Rattle.record.proofs.Facts.{whole}
 use Rattle.record.proofs.PartLaws.{kind_few}
 use Rattle.state.specs.State.{view, view_of, table_of, own_of, marks_of}
-use Rattle.state.specs.Sound.{sound}
 use Rattle.state.specs.declared.Marks.{Marks}
 use Rattle.state.proofs.Facts.{Sounds, sounds}
 use Rattle.board.specs.declared.Plan.TheVariants.{Take}
@@ -39,7 +38,6 @@ use Rattle.board_figure.proofs.Firing.{Only, word_one, only_echo, only_vote, wai
 use Rattle.board_step.proofs.Octets.{kept_bytes}
 use Rattle.board_figure.proofs.Overdue.{nothing_overdue}
 use Rattle.board_figure.proofs.Received.{echo_received, vote_received, send_acquired, figure_marks}
-use Rattle.board_figure.proofs.Reaching.{events}
 use Rattle.board_figure.proofs.Words.{as_is, vote_put_out, echo_put_out, output_voted, word_fires}
 
 -- what a step does with the record r, which is the message m, is what the figure does: z is its outcome
