@@ -1,3 +1,4 @@
+use borrow.Author.Rules.{rules}
 use mathlib.Core.Path.{refl, ◌≡◌, ◌∙◌, subst}
 use Prim.Native.Nat.{suc, ℕ, ◌+◌}
 use native.Mathlib.Omega.{arith}
@@ -82,7 +83,7 @@ loop-m-preserved c =
       c.raise_powers.auto.powers ∙ l.invariant.3,
       summed_next a.k p.1 a.message.now a.first a.count a.at a.s a.c a.n p.6 c.lay_column.new.area
           l.m gather2.new.column l.powers c.raise_powers.new.powers l.area add_column.new.area (omega (arith, loop_test.true)) l.invariant.4 gather2.ensures
-          (λ d. omega (arith, c.slice_known-in-loop-m-1.given d)) add_column.ensures c.raise_powers.ensures,
+          (λ d. search rules) add_column.ensures c.raise_powers.ensures,
     )
 
 pub shape_of-area : goal.shape_of-area

@@ -1,14 +1,10 @@
-use mathlib.Core.Path.{◌≡◌, ap, ◌∙◌}
-use mathlib.Core.List.{List}
+use mathlib.Core.Path.{ap, ◌∙◌}
 use Prim.Native.Nat.{ℕ, ◌+◌}
 use native.Mathlib.Omega.{arith}
 use lib.ListN.{get_or}
 use Rattle.field.specs.Field.{add, mul}
 use Rattle.octets.proofs.Walk.{start, next}
 use Rattle.code_sum.proofs.accumulate.Goals as goal
-
-abbrev New : ℕ → List ℕ → ℕ → List ℕ → ℕ → ℕ → Type 0
-New w src from old c v = v ≡ add (get_or old c 0) (mul w (get_or src (from + c) 0))
 
 pub loop-c-init : goal.loop-c-init
 loop-c-init c = (omega arith, start _ _ _ (λ k h. absurd (omega arith)))

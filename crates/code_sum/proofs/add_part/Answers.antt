@@ -1,14 +1,10 @@
-use mathlib.Core.Path.{◌≡◌, ap, ◌∙◌}
-use mathlib.Core.List.{List}
+use mathlib.Core.Path.{ap, ◌∙◌}
 use Prim.Native.Nat.{ℕ, ◌+◌}
 use native.Mathlib.Omega.{arith}
 use lib.ListN.{get_or}
 use Rattle.field.specs.Field.{add}
 use Rattle.octets.proofs.Walk.{start, next}
 use Rattle.code_sum.proofs.add_part.Goals as goal
-
-abbrev New : List ℕ → ℕ → List ℕ → ℕ → ℕ → Type 0
-New src from old i v = v ≡ add (get_or old i 0) (get_or src (from + i) 0)
 
 pub loop-i-init : goal.loop-i-init
 loop-i-init c = (omega arith, start _ _ _ (λ k h. absurd (omega arith)))

@@ -1,14 +1,10 @@
 use mathlib.Core.Path.{◌≡◌, sym, ap, ◌∙◌}
-use mathlib.Core.List.{List}
 use Prim.Native.Nat.{ℕ, ◌+◌}
 use native.Mathlib.Nat as N
 use native.Mathlib.Omega.{arith}
 use lib.ListN.{get_or}
 use Rattle.octets.proofs.Walk.{start, next}
 use Rattle.code_sum.proofs.shift.Goals as goal
-
-abbrev New : ℕ → List ℕ → ℕ → ℕ → Type 0
-New d old i v = v ≡ get_or old (d + i) 0
 
 pub returns-then-d-eq0 : goal.returns-then-d-eq0
 returns-then-d-eq0 c =

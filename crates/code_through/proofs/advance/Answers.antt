@@ -1,14 +1,10 @@
-use mathlib.Core.Path.{◌≡◌, ap₂, ◌∙◌}
-use mathlib.Core.List.{List}
+use mathlib.Core.Path.{ap₂, ◌∙◌}
 use Prim.Native.Nat.{ℕ}
 use native.Mathlib.Omega.{arith}
 use lib.ListN.{get_or}
 use Rattle.field.specs.Field.{add, mul}
 use Rattle.octets.proofs.Walk.{start, next}
 use Rattle.code_through.proofs.advance.Goals as goal
-
-abbrev New : List ℕ → List ℕ → ℕ → List ℕ → ℕ → ℕ → Type 0
-New xs ds top old j v = v ≡ add (mul (get_or ds j 0) top) (mul (get_or xs j 0) (get_or old j 0))
 
 pub loop-j-init : goal.loop-j-init
 loop-j-init c = (omega arith, start _ _ _ (λ k h. absurd (omega arith)))

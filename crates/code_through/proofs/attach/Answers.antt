@@ -1,18 +1,13 @@
 use mathlib.Core.Path.{◌≡◌, refl, sym, ap, ap₂, ◌∙◌}
 use mathlib.Core.Logic.{⊎_elim}
 use mathlib.Core.List.{List}
-use Prim.Native.Nat.{ℕ, ◌+◌, ◌<◌, ◌≤◌}
+use Prim.Native.Nat.{ℕ, ◌+◌, ◌≤◌}
 use native.Mathlib.Omega.{arith}
 use lib.ListN.{length, get_or, length-set, get_or-eq_default}
 use Rattle.field.specs.Field.{add, mul}
 use Rattle.field.proofs.Laws.{zero_mul_r, add_zero}
 use Rattle.octets.proofs.Walk.{start, next, lt_or_le}
 use Rattle.code_through.proofs.attach.Goals as goal
-
--- s is what stands at k in the end
-pub record New (x : ℕ) (old : List ℕ) (j k s : ℕ) : Type 0 where
-  pub kept : k < j → s ≡ get_or old k 0
-  pub each : j ≤ k → s ≡ add (get_or old k 0) (mul x (get_or old (k + 1) 0))
 
 -- at the end of the row nothing is added
 last : (old : List ℕ) (x k : ℕ) → length old ≤ k + 1 → add (get_or old k 0) (mul x (get_or old (k + 1) 0)) ≡ get_or old k 0

@@ -1,11 +1,10 @@
 -- `code_through::attach` meets its contract. The loop's invariant: before j the row is as it was, from there to i it is done, the rest is as it was.
 -- Assumes nothing.
-use mathlib.Core.Path.{◌≡◌, ap, ◌∙◌}
+use mathlib.Core.Path.{◌≡◌}
 use mathlib.Core.List.{List}
 use Prim.Native.Nat.{ℕ, ◌+◌, ◌<◌, ◌≤◌, ◌-◌}
-use lib.ListN.{length, get_or, get_or-eq_default}
+use lib.ListN.{length, get_or}
 use Rattle.field.specs.Field.{add, mul}
-use Rattle.field.proofs.Laws.{zero_mul_r, add_zero}
 use Rattle.octets.proofs.Walk.{Walked}
 use Rattle.code_through.proofs.attach.Given as goal
 
@@ -13,10 +12,6 @@ use Rattle.code_through.proofs.attach.Given as goal
 pub record New (x : ℕ) (old : List ℕ) (j k s : ℕ) : Type 0 where
   pub kept : k < j → s ≡ get_or old k 0
   pub each : j ≤ k → s ≡ add (get_or old k 0) (mul x (get_or old (k + 1) 0))
-
--- at the end of the row nothing is added
-last : (old : List ℕ) (x k : ℕ) → length old ≤ k + 1 → add (get_or old k 0) (mul x (get_or old (k + 1) 0)) ≡ get_or old k 0
-last old x k h = ap (λ (v : ℕ). add (get_or old k 0) (mul x v)) (get_or-eq_default old 0 h) ∙ simp (zero_mul_r, add_zero)
 
 abbrev pub invariant-loop-i : goal.invariant-loop-i
 invariant-loop-i l = (l.j ≤ l.i) × (l.i < length l.row) × Walked (New l.x l.initial.row l.j) l.initial.row l.i l.row

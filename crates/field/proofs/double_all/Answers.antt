@@ -1,14 +1,8 @@
-use mathlib.Core.Path.{◌≡◌, ap, ◌∙◌}
-use mathlib.Core.List.{List}
-use Prim.Native.Nat.{ℕ}
+use mathlib.Core.Path.{ap, ◌∙◌}
 use native.Mathlib.Omega.{arith}
-use lib.ListN.{get_or}
 use Rattle.field.specs.Field.{double}
 use Rattle.octets.proofs.Walk.{start, next}
 use Rattle.field.proofs.double_all.Goals as goal
-
-abbrev New : List ℕ → ℕ → ℕ → Type 0
-New old i v = v ≡ double (get_or old i 0)
 
 pub loop-i-init : goal.loop-i-init
 loop-i-init c = (omega arith, start _ _ _ (λ k h. absurd (omega arith)))
