@@ -26,7 +26,7 @@ use Rattle.line_desk.proofs.Carry.{begun}
 use Rattle.line_desk.specs.Desk.{Desk, Lend, Roomy, long_enough, lends}
 use Rattle.line_demand.specs.Boards.{fragment_kind, Sends, fragment_board, boards}
 use Rattle.line_demand.proofs.Carry.{paper, begins, follows}
-use Rattle.line_demand.proofs.Reached.{started, held, run_sound}
+use Rattle.line_demand.proofs.Reached.{held, run_sound}
 use Rattle.line_demand.specs.Demand.{DemandThree}
 use Rattle.line_demand.proofs.Demand.{demand_three}
 use Rattle.line_mailbox.specs.Polls.{Polls, Trays, emptied_to, poll_puts, poll_gives, items_taken, desk_at, PutBy, GaveBy, TookBy, hand_each, singly, FairBy, OverBy}

@@ -18,7 +18,6 @@ use Rattle.board_mailbox.specs.Emptied.{Emptied, only_number, emptied, filed, ha
 use Rattle.board_mailbox.proofs.Refusals.{none_refused}
 use Rattle.board_mailbox.proofs.Walk.{OpenFor}
 use Rattle.line.specs.Bytes.{bytes}
-use Rattle.line.specs.Run.{state}
 use Rattle.line.proofs.Tests.{none_some}
 use Rattle.line_code.proofs.ByteLaws.{all_bytes, bytes_all}
 use Rattle.line_desk.specs.Desk.{Desk, put_in}
