@@ -1,17 +1,15 @@
 use mathlib.Core.Path.{◌≡◌, refl, sym, ap, ap₂, ◌∙◌}
 use mathlib.Core.List.{List, [], ◌∷◌}
-use Prim.Native.Nat.{ℕ, ◌+◌, ◌/◌, ◌%◌}
+use Prim.Native.Nat.{ℕ, ◌+◌}
 use native.Mathlib.Omega.{arith}
 use native.Mathlib.Numerals.{add-one}
-use lib.ListN.{get_or, set, length-set}
+use lib.ListN.{set, length-set}
 use Rattle.octets.specs.Bytes.{tab, put}
 use Rattle.octets.proofs.Laws.{put_one, put_next}
 use Rattle.octets.proofs.Tables.{length_tab}
-use Rattle.sha256.specs.Sha256.{byte_of, digest}
+use Rattle.sha256.specs.Sha256.{digest}
+use Rattle.sha256_strings.proofs.put_digest.Invariants.{byte_at}
 use Rattle.sha256_strings.proofs.put_digest.Goals as goal
-
-abbrev byte_at : List ℕ → ℕ → ℕ
-byte_at h j = byte_of 4 (get_or h (j / 4) 0) (j % 4)
 
 put_step : (f : ℕ → ℕ) (s l : List ℕ) (a i v : ℕ) → l ≡ put a (tab i f) s → v ≡ f i → set l (a + i) v ≡ put a (tab (i + 1) f) s
 unfolding tab
