@@ -1,7 +1,8 @@
 -- The shape of a round, and of the sums after the rounds, as the code makes them.
 -- Assumes nothing.
-use Rattle.std.proofs.Common.{◌≡◌, ℕ, ◌+◌, ◌%◌, ◌^◌, ◌<◌, List, [], ◌∷◌, get_or, drop, ap, ◌∙◌, add-one, arith, get_or-drop, get_or-take}
+use Rattle.std.proofs.Common.{◌≡◌, ℕ, ◌+◌, ◌%◌, ◌^◌, ◌<◌, ◌≤◌, List, [], ◌∷◌, get_or, drop, ap, ◌∙◌, ⊎_elim, add-one, arith, get_or-drop, get_or-take}
 use Rattle.octets.specs.Bytes.{part}
+use Rattle.octets.proofs.Walk.{lt_or_le}
 use Rattle.sha256.specs.Words.{◌⊞◌}
 use Rattle.sha256.specs.Sha256.{T₁, T₂, round, rounds, sums}
 use Rattle.sha256.specs.Tables.{K}
@@ -60,3 +61,15 @@ rounds_eight w first k h s₁ s₂ s₃ s₄ s₅ s₆ s₇ s₈ t hk h₀ h₁ 
     let r₆ = round_on w first k t hk 5 (omega arith) s₅ s₆ r₅ h₆ in
     let r₇ = round_on w first k t hk 6 (omega arith) s₆ s₇ r₆ h₇ in
     round_on w first k t hk 7 (omega arith) s₇ s₈ r₇ h₈
+
+-- ---- the last of eight cases
+
+below_four : (q : ℕ) → q < 4 → (q ≡ 0 → ⊥) → (q ≡ 1 → ⊥) → (q ≡ 2 → ⊥) → (q ≡ 3 → ⊥) → ⊥
+below_four q lt a b c d = omega arith
+
+from_four : (q : ℕ) → 4 ≤ q → q < 8 → (q ≡ 4 → ⊥) → (q ≡ 5 → ⊥) → (q ≡ 6 → ⊥) → q ≡ 7
+from_four q ge lt a b c = omega arith
+
+pub last_case : (q : ℕ) → q < 8 → (q ≡ 0 → ⊥) → (q ≡ 1 → ⊥) → (q ≡ 2 → ⊥) → (q ≡ 3 → ⊥) → (q ≡ 4 → ⊥) → (q ≡ 5 → ⊥) → (q ≡ 6 → ⊥) → q ≡ 7
+last_case q lt a b c d e f g =
+    ⊎_elim (λ (h : q < 4). absurd (below_four q h a b c d)) (λ (h : 4 ≤ q). from_four q h lt e f g) (lt_or_le q 4)
