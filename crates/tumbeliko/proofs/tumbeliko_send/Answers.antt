@@ -1,0 +1,4 @@
+use Rattle.tumbeliko.proofs.tumbeliko_send.Goals as goal
+
+pub returns : goal.returns
+returns c = rw c.table.ensures at c.send.ensures
