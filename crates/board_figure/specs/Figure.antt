@@ -186,6 +186,6 @@ pub data Branch (b : Table) (own : ℕ) (x : Figure) : List Event → Figure →
   opens : (r : List ℕ) → At false x → x.voted ≡ true → most_of b ≤ ones (voting b x r)
       → Branch b own x [] (turned x x.voted true x.done)
   -- "wait until: for some I ⊆ [n], {π_i, f_i}: |I| = n - 2t and for all i ∈ I: received (echo, r, π_i, f_i) from P_i and π_i is a correct
-  -- validation path .. output .. done ← true"; r is the root with n - t votes: it keeps them, and no other has them (one-root, proofs/Counts)
+  -- validation path .. output .. done ← true"; r is the root with n - t votes: it keeps them, and no other has them (one_root, proofs/Counts)
   delivers : (r : List ℕ) (m : Option (List ℕ)) → At true x → most_of b ≤ ones (voting b x r) → k_of b ≤ ones (usables b x r) → OutputFor b x r m
       → Branch b own x (outputs m ∷ []) (turned x x.voted x.output true)

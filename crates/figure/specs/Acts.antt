@@ -10,7 +10,7 @@ pub data Act (Message Result : Type 0) : Type 0 where
   sends : Message → Act Message Result
   outputs : Result → Act Message Result
 
--- asRecord: the record that a message is; asDelivery: the message that a result delivers, or none for void
+-- as_record: the record that a message is; as_delivery: the message that a result delivers, or none for void
 module _ {Message Result : Type 0} (as_record : Message → List ℕ) (as_delivery : Result → Option (List ℕ)) where
   -- all that is sent, one record after the other
   abbrev pub sent_by : List (Act Message Result) → List ℕ

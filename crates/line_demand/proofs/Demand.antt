@@ -1,4 +1,4 @@
--- Demand 3 of the boards that C calls: `demand-three`, at the end. Its statement, `DemandThree`, stands in specs/Demand.antt.
+-- Demand 3 of the boards that C calls: `demand_three`, at the end. Its statement, `DemandThree`, stands in specs/Demand.antt.
 use Prim.Native.Nat.{ℕ, ◌≤◌}
 use native.Mathlib.Omega.{arith}
 use mathlib.Core.Bool.{Bool, true}

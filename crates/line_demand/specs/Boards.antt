@@ -44,7 +44,7 @@ abbrev pub boards : Table → (ℕ → Desk) → Machine
 boards b lent = byte_line (fragment_board b) lent
 
 -- "A rule-keeping sender puts out its n send records for one message": the sender i calls for board j, with an outgoing buffer that is long enough, and
--- ρ is what the call leaves at the buffer's front. `sendOf` is what the contract of the sender's call cites; the call touches no board's state, so it
+-- ρ is what the call leaves at the buffer's front. `send_of` is what the contract of the sender's call cites; the call touches no board's state, so it
 -- stands beside the run and is no order of it
 pub record Sends (b : Table) (m : List ℕ) (i j : ℕ) (ρ : List ℕ) : Type 0 where
   pub sender : i ≡ b.sender

@@ -286,7 +286,7 @@ module _ {n t : ℕ} {C : Code} {B : Line n t C} (A : LineLaws B) where
   pub more_start : (r₀ : ℕ → C.Root) (f₀ : ℕ → C.Frag) (j : ℕ) → More j ((board B r₀ f₀).start j)
   more_start r₀ f₀ j = record { own = refl; within = λ i h. absurd h; out_voted = λ h. h; done_out = λ h. h; out_why = λ h. absurd h; out_due = λ v h. absurd h; done_due = λ v q u h. absurd h }
 
-  -- the step meets what echo and vote ask, by Cores.echo-vote
+  -- the step meets what echo and vote ask, by Cores.echo_vote
   unfoldable pub has_core : (r₀ : ℕ → C.Root) (f₀ : ℕ → C.Frag) → HasCore (board B r₀ f₀) n t C.Root B.same
   has_core r₀ f₀ = record {
     third = A.third;

@@ -1,4 +1,4 @@
--- Demand 3 of the notice boards that C calls: `demand-three-notices`, at the end. Its statement, `DemandThreeNotices`, stands in specs/Demand.antt.
+-- Demand 3 of the notice boards that C calls: `demand_three_notices`, at the end. Its statement, `DemandThreeNotices`, stands in specs/Demand.antt.
 use Prim.Native.Nat.{ℕ, ◌≤◌}
 use native.Mathlib.Omega.{arith}
 use mathlib.Core.Bool.{Bool, true}

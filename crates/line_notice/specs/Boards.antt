@@ -1,4 +1,4 @@
--- A line of notice boards that are bytes: each runs `noticeStartOf` once and then `noticeStepOf`, the definitions that the contracts of start and step
+-- A line of notice boards that are bytes: each runs `notice_start_of` once and then `notice_step_of`, the definitions that the contracts of start and step
 -- cite.
 use Rattle.std.specs.Prelude.{ℕ, zero, suc, ◌≤◌, ◌≡◌, List, true, length}
 use Rattle.std.proofs.Math.Option.{Option, some, none}
@@ -46,7 +46,7 @@ pub record Noticeable (v : List ℕ) : Type 0 where
   pub bytes : bytes v ≡ true
 
 -- A rule-keeping sender puts out its n records for one notice: the sender i calls for board j, with an outgoing buffer that is long enough, and ρ is
--- what the call leaves at the buffer's front. `noticeSendOf` is what the contract of the sender's call cites; the call touches no board's state, so it
+-- what the call leaves at the buffer's front. `notice_send_of` is what the contract of the sender's call cites; the call touches no board's state, so it
 -- stands beside the run and is no order of it
 pub record NoticeSends (b : Table) (v : List ℕ) (i j : ℕ) (ρ : List ℕ) : Type 0 where
   pub sender : i ≡ b.sender

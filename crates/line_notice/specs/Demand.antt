@@ -15,7 +15,7 @@ use Rattle.line_notice.specs.Boards.{notice_kind, notice_boards, Noticeable, Not
 --
 -- A result is a notice, and nothing else may have happened: ⊥ stands where the fragment broadcast has two strings with one hash value.
 --
--- It is about boards of bytes, each of which runs `noticeStartOf` once and then `noticeStepOf`: what C calls. All starts stand at the beginning of a
+-- It is about boards of bytes, each of which runs `notice_start_of` once and then `notice_step_of`: what C calls. All starts stand at the beginning of a
 -- run, since a start touches its own buffers only. b is the table, lent the buffers of each board before its start, keeps the boards that keep the
 -- rules, v the sender's notice, if it keeps them.
 unfoldable pub DemandThreeNotices : Type 0
