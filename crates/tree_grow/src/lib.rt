@@ -106,7 +106,9 @@ fn lay(paths: &mut [u8], n: usize, d: usize, c: usize, h: &[u32; 8])
     }
 }
 
-// All paths a level further: tree after tree d levels high, each beside its other half. h is room to work in.
+// All paths a level further: tree after tree d levels high, each beside its other half. h is room to work in. (In a frame of its own, which is not there
+// while the fragments are made.)
+#[inline(never)]
 fn further(
     h: &mut [u32; 8],
     area: &[u8],
