@@ -179,7 +179,4 @@ for p in files("rt"):
 
 for line in look:
     print("look: " + line)
-with open("/tmp/respelled.tsv", "w", encoding="utf-8") as f:
-    for o in sorted(every):
-        f.write(f"{o}\t{every[o]}\n")
 print(f"{len(every)} names" + (" would turn" if CHECK else " turned"))
