@@ -21,7 +21,7 @@ unfoldable pub attach : ℕ → ℕ → List ℕ → List ℕ
 attach x y [] = y ∷ []
 attach x y (d ∷ ds) = add y (mul x d) ∷ attach x d ds
 
--- the values (v - y) / (z - x) that q takes at the points zs, where y + (X - x) q takes the values vs (`inverse a` times a is 1, `mul-inverse`)
+-- the values (v - y) / (z - x) that q takes at the points zs, where y + (X - x) q takes the values vs (`inverse a` times a is 1, `mul_inverse`)
 unfoldable pub slopes : ℕ → ℕ → List ℕ → List ℕ → List ℕ
 slopes x y [] vs = []
 slopes x y (z ∷ zs) [] = []

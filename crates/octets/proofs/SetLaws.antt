@@ -1,4 +1,4 @@
--- Turns of the loops over `setOf`, `every` and `some`.
+-- Turns of the loops over `set_of`, `every` and `some`.
 use mathlib.Core.Path.{◌≡◌}
 use Prim.Native.Nat.{ℕ, zero, suc, ◌+◌, ◌-◌, ◌*◌, ◌^◌, ◌≤◌, ◌<◌}
 use mathlib.Core.Bool.{Bool, true, false}
