@@ -1,3 +1,4 @@
+use native.Mathlib.Omega.{arith}
 use borrow.Author.Tests.{le-leb, lt-leb}
 use Rattle.drill_lines.specs.Lines.{right_table}
 use Rattle.drill_lines.proofs.right_table.Goals as goal
@@ -14,10 +15,10 @@ pub returns-then-b-gt7 : goal.returns-then-b-gt7
 unfolding right_table
 returns-then-b-gt7 c =
     let has_form = c.has_form in let table_in = c.table_in-b in
-    rw (← has_form.ensures, c.if-not-has_form.false, ← table_in.ensures, ← c.in_limits.ensures, c.if-not-in_limits.false, lt-leb table_in.result.n 7 c.if-b-gt7.true)
+    rw (← has_form.ensures, c.if-not-has_form.false, ← table_in.ensures, ← c.in_limits.ensures, c.if-not-in_limits.false, lt-leb table_in.result.n 7 (omega arith))
 
 pub returns : goal.returns
 unfolding right_table
 returns c =
     let has_form = c.has_form in let table_in = c.table_in-b in let in_limits = c.in_limits in
-    rw (← has_form.ensures, c.if-not-has_form.false, ← table_in.ensures, ← in_limits.ensures, c.if-not-in_limits.false, le-leb table_in.result.n 7 c.if-b-gt7.false)
+    rw (← has_form.ensures, c.if-not-has_form.false, ← table_in.ensures, ← in_limits.ensures, c.if-not-in_limits.false, le-leb table_in.result.n 7 (omega arith))
