@@ -1,2 +1,3 @@
 -- What the contracts of `table` cite.
 pub mod Table
+pub mod Checked

@@ -4,7 +4,9 @@
 ghost use Rattle.std.specs.Prelude.{◌≡◌, true, false, ℕ, ◌+◌, ◌-◌, ◌*◌, ◌/◌, ◌^◌, ◌≤◌, ◌<◌, eqb};
 ghost use Rattle.std.specs.Int.Count.{ones};
 ghost use Rattle.octets.specs.Sets.{has};
-ghost use Rattle.table.specs.Table.{limits, is_board, k_of, s_max};
+ghost use Rattle.table.specs.Table.{limits, is_board, k_of, s_max, most_of, some_of};
+
+use refusal::Refusal;
 
 // n boards, of which t may break the rules; the sender's number; the longest message, L.
 #[derive(Clone, Copy)]
@@ -15,57 +17,97 @@ pub struct Table {
     pub longest: usize,
 }
 
-// Whether the table is within its limits.
-pub fn in_limits(b: Table) -> bool
-    ensures { result ≡ limits b }
-{
-    if b.n < 1 {
-        return false;
+impl Table {
+    // Whether the table is within its limits.
+    pub fn in_limits(self) -> bool
+        ensures { result ≡ limits self }
+    {
+        if self.n < 1 {
+            return false;
+        }
+        if 64 < self.n {
+            return false;
+        }
+        // before it is multiplied, so that nothing wraps
+        if 64 < self.t {
+            return false;
+        }
+        if self.n <= 3 * self.t {
+            return false;
+        }
+        if self.sender < 1 {
+            return false;
+        }
+        if self.n < self.sender {
+            return false;
+        }
+        self.longest <= 16384
     }
-    if 64 < b.n {
-        return false;
+
+    // Whether a number is a board's: from 1 to n.
+    pub fn is_board(self, i: usize) -> bool
+        ensures { result ≡ is_board self i }
+    {
+        if i < 1 {
+            return false;
+        }
+        i <= self.n
     }
-    // before it is multiplied, so that nothing wraps
-    if 64 < b.t {
-        return false;
-    }
-    if b.n <= 3 * b.t {
-        return false;
-    }
-    if b.sender < 1 {
-        return false;
-    }
-    if b.n < b.sender {
-        return false;
-    }
-    b.longest <= 16384
 }
 
-// Whether a number is a board's: from 1 to n.
-pub fn is_board(b: Table, i: usize) -> bool
-    ensures { result ≡ is_board b i }
-{
-    if i < 1 {
-        return false;
+// A table within its limits.
+#[derive(Clone, Copy)]
+pub struct InLimits {
+    pub table: Table,
+    ghost within: { limits table ≡ true },
+}
+
+// The table, if it is within its limits; else refusal 1.
+impl TryFrom<Table> for InLimits {
+    ghost use Rattle.table.specs.Checked.{Checks};
+
+    type Error = Refusal;
+
+    ghost try_from_gives = { Checks };
+
+    fn try_from(b: Table) -> Result<InLimits, Refusal> {
+        if b.in_limits() {
+            Ok(InLimits { table: b })
+        } else {
+            Err(Refusal::Table)
+        }
     }
-    i <= b.n
 }
 
-// k, the number of fragments that give a block back.
-pub fn fragments_needed(b: Table) -> usize
-    requires { limits b ≡ true }
-    ensures { (result ≡ k_of b) × (0 < result) × (result ≤ b.n) × (result ≤ 64) }
-{
-    b.n - 2 * b.t
-}
+impl InLimits {
+    // k, the number of fragments that give a block back.
+    pub fn fragments_needed(self) -> usize
+        ensures { (result ≡ k_of self.table) × (0 < result) × (result ≤ self.table.n) × (result ≤ 64) }
+    {
+        self.table.n - 2 * self.table.t
+    }
 
-// s_max, the longest fragment.
-pub fn fragment_most(b: Table) -> usize
-    requires { limits b ≡ true }
-    ensures { (result ≡ s_max b) × (result ≤ 16388) }
-{
-    let k = b.n - 2 * b.t;
-    (b.longest + 4 + (k - 1)) / k
+    // s_max, the longest fragment.
+    pub fn fragment_most(self) -> usize
+        ensures { (result ≡ s_max self.table) × (result ≤ 16388) }
+    {
+        let k = self.fragments_needed();
+        (self.table.longest + 4 + (k - 1)) / k
+    }
+
+    // n - t: so many boards that agree are more than half of those that keep the rules.
+    pub fn most(self) -> usize
+        ensures { (result ≡ most_of self.table) × (result ≤ 64) }
+    {
+        self.table.n - self.table.t
+    }
+
+    // t + 1: one of so many boards keeps the rules.
+    pub fn some(self) -> usize
+        ensures { (result ≡ some_of self.table) × (result ≤ 64) }
+    {
+        self.table.t + 1
+    }
 }
 
 // Whether board i + 1 is in the set.
@@ -91,5 +133,5 @@ pub fn below(set: u64, n: usize) -> bool
 pub fn size(set: u64) -> usize
     ensures { (result ≡ ones set) × (result ≤ 64) }
 {
-    u64::count_ones(set) as usize
+    set.count_ones() as usize
 }

@@ -1,6 +1,6 @@
 use Rattle.octets.proofs.Picks.{picks}
 use Rattle.table.specs.Table.{is_board}
-use Rattle.table.proofs.is_board.Goals as goal
+use Rattle.table.proofs.Table.is_board.Goals as goal
 
 pub returns-then-i-lt1 : goal.returns-then-i-lt1
 unfolding is_board

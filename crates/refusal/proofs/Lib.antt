@@ -1,0 +1,2 @@
+-- Laws of the numbers.
+pub mod Numbers
