@@ -315,6 +315,7 @@ impl Element {
     }
 
     // The product by the bits of this element, from the highest down: it too has no table and no branch.
+    // Stays: written out, since a loop over it becomes vector code only where it has no loop of its own.
     pub fn product(self, x: Element) -> Element
         ensures { result.0 ≡ mul self.0 x.0 }
     {
@@ -357,13 +358,12 @@ impl Element {
         a127.product(a127)
     }
 
-    // The generator's power, from the table.
+    // The generator's power, from the table. (A table is laid out on the stack wherever it is indexed, so it is indexed in one place.)
     pub fn power(e: usize) -> Element
         requires { e < 510 }
         ensures { result.0 ≡ power e }
     {
-        let i = turn(e);
-        Element(POWERS[i])
+        Element(POWERS[e % 255])
     }
 
     // The exponent at which the generator's power is this element, from the table.
@@ -371,18 +371,14 @@ impl Element {
         requires { 0 < self.0 }
         ensures { (result < 255) × (power result ≡ self.0) }
     {
-        let a = self.0 as usize;
-        LOGS[a] as usize
+        usize::from(LOGS[usize::from(self.0)])
     }
 
     // The product by the tables. (No call of the library goes by them: docs/DECISIONS.md, language forms.)
     pub fn product_by_logs(self, other: Element) -> Element
         ensures { result.0 ≡ mul self.0 other.0 }
     {
-        if self.0 == 0 {
-            return Element::ZERO;
-        }
-        if other.0 == 0 {
+        if self.0 == 0 || other.0 == 0 {
             return Element::ZERO;
         }
         Element::power(self.log() + other.log())
@@ -397,22 +393,11 @@ impl Element {
     }
 }
 
-// The same exponent below 255. (A table is laid out on the stack wherever it is indexed, so it is indexed in one place.)
-fn turn(e: usize) -> usize
-    requires { e < 510 }
-    ensures { (result < 255) × (power result ≡ power e) }
+// Each byte is doubled.
+pub fn double_all(s: &mut [u8])
+    ensures { (i : ℕ) → i < length s.old → get_or s.new i 0 ≡ double (get_or s.old i 0) }
 {
-    if e < 255 { e } else { e - 255 }
-}
-
-// Each of the first n bytes is doubled.
-pub fn double_all(s: &mut [u8], n: usize)
-    requires { n ≤ length s.old }
-    ensures { (i : ℕ) → i < n → get_or s.new i 0 ≡ double (get_or s.old i 0) }
-{
-    let mut i = 0;
-    while i < n {
-        s[i] = Element(s[i]).twice().0;
-        i += 1;
+    for x in s.iter_mut() {
+        *x = Element(*x).twice().0;
     }
 }

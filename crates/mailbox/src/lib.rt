@@ -18,8 +18,7 @@ pub fn is_framed(mailbox: &[u8]) -> bool
         return false;
     }
     let mut at = 2;
-    let mut i = 0;
-    while i < count {
+    for i in 0..count {
         if mailbox.len() - at < 3 {
             return false;
         }
@@ -28,7 +27,6 @@ pub fn is_framed(mailbox: &[u8]) -> bool
             return false;
         }
         at = at + 3 + len;
-        i += 1;
     }
     at == mailbox.len()
 }

@@ -1,17 +1,15 @@
 -- Laws of `part`, `put` and `same`. None but those that read back what was put asks for a bound.
-use mathlib.Core.Path.{◌≡◌, refl, ◌∙◌}
+use mathlib.Core.Path.{◌≡◌, refl, sym, ap, ◌∙◌}
 use Prim.Native.Nat.{ℕ, zero, suc, ◌+◌, ◌-◌, ◌≤◌, ◌<◌}
-use mathlib.Core.List.{[], List, ◌∷◌, ◌++◌}
-use mathlib.Core.Bool.{true, false, ◌&&◌}
+use mathlib.Core.List.{[], List, ◌∷◌, ◌++◌, append_assoc}
 use mathlib.Core.Logic.{◌⊎◌, inl, inr, ⊎_elim}
 use native.Mathlib.Omega.{arith}
 use native.Mathlib.Numerals.{add-one}
 use native.Mathlib.Nat.{add-zero, add-suc, suc-add}
-use lib.ListN.{length, get_or, drop, set, length-set, drop_of_length-le, length-take, length-drop, replicate}
-use lib.Dec.{eqb}
-use borrow.Author.Tests.{eq-eqb, ne_eqb}
-use lib.Seq.{length-sets, get_or-set_same, get_or-set_other, drop-cons}
-use Rattle.octets.specs.Bytes.{part, put, same}
+use borrow.Rule.Slice.PartMut.{put_mid, Post-is}
+use lib.ListN.{length, get_or, take, drop, set, length-set, length-take, length-drop}
+use lib.Seq.{length-sets, sets-eq, get_or-set_same, get_or-set_other, drop-cons}
+use Rattle.octets.specs.Bytes.{part, put}
 
 -- a put changes no length
 pub length_put : (a : ℕ) (v s : List ℕ) → length (put a v s) ≡ length s
@@ -52,48 +50,18 @@ pub part_cons : (a n : ℕ) (s : List ℕ) → a < length s → part a (suc n) s
 unfolding part
 part_cons a n s h = rw (drop-cons s a 0, add-one)
 
--- ---- turns of the loops that copy and compare
+-- a part by its two ends
+pub part_range : (a n : ℕ) (s : List ℕ) → take (a + n - a) (drop a s) ≡ part a n s
+unfolding part
+part_range a n s = ap (λ (m : ℕ). take m (drop a s)) (omega arith)
 
-pub put_turn : (d src : List ℕ) (a i : ℕ) → i < length src → put (a + i) (drop i src) d ≡ put (a + (i + 1)) (drop (i + 1) src) (set d (a + i) (get_or src i 0))
+-- a part that was lent and came back is a put
+pub mid_put : (a e : ℕ) (xs ys : List ℕ) → a ≤ e → e ≤ length xs → length ys ≡ e - a → put_mid a (e - a) xs ys ≡ put a ys xs
 unfolding put
-put_turn d src a i h = rw (drop-cons src i 0, add-one, add-suc)
-
-pub put_end : (d src : List ℕ) (a i : ℕ) → length src ≤ i → put (a + i) (drop i src) d ≡ d
-unfolding put
-put_end d src a i h = rw drop_of_length-le
-
-module _ (s r : List ℕ) (a b n i : ℕ) (h : i < n) (fs : a + n ≤ length s) (fr : b + n ≤ length r) where
-  heads : same (part (a + i) (n - i) s) (part (b + i) (n - i) r) ≡ eqb (get_or s (a + i) 0) (get_or r (b + i) 0) && same (part (a + (i + 1)) (n - (i + 1)) s) (part (b + (i + 1)) (n - (i + 1)) r)
-  unfolding same
-  heads =
-      let e : n - i ≡ suc (n - (i + 1)) = omega arith in
-      let p : a + i + 1 ≡ a + (i + 1) = omega arith in
-      let q : b + i + 1 ≡ b + (i + 1) = omega arith in
-      rw (e, part_cons (a + i) (n - (i + 1)) s (omega arith), part_cons (b + i) (n - (i + 1)) r (omega arith), p, q)
-
-  pub same_turn : get_or s (a + i) 0 ≡ get_or r (b + i) 0 → same (part (a + i) (n - i) s) (part (b + i) (n - i) r) ≡ same (part (a + (i + 1)) (n - (i + 1)) s) (part (b + (i + 1)) (n - (i + 1)) r)
-  same_turn e = heads ∙ rw (eq-eqb (get_or s (a + i) 0) (get_or r (b + i) 0) e)
-
-  pub same_differ : (get_or s (a + i) 0 ≡ get_or r (b + i) 0 → ⊥) → same (part (a + i) (n - i) s) (part (b + i) (n - i) r) ≡ false
-  same_differ e = heads ∙ rw (ne_eqb (get_or s (a + i) 0) (get_or r (b + i) 0) e)
-
-pub same_end : (s r : List ℕ) (a b n : ℕ) → n ≡ 0 → same (part a n s) (part b n r) ≡ true
-unfolding same part
-same_end s r a b n e = rw e
-
--- turns of the loop that copies a part
-pub part_turn : (d src : List ℕ) (a b n i : ℕ) → i < n → b + n ≤ length src
-    → put (a + i) (part (b + i) (n - i) src) d ≡ put (a + (i + 1)) (part (b + (i + 1)) (n - (i + 1)) src) (set d (a + i) (get_or src (b + i) 0))
-unfolding put
-part_turn d src a b n i h f =
-    let e : n - i ≡ suc (n - (i + 1)) = omega arith in
-    let q : b + i + 1 ≡ b + (i + 1) = omega arith in
-    let r : a + (i + 1) ≡ suc (a + i) = omega arith in
-    rw (e, part_cons (b + i) (n - (i + 1)) src (omega arith), q, r)
-
-pub part_end : (d src : List ℕ) (a b n i : ℕ) → n ≤ i → put (a + i) (part (b + i) (n - i) src) d ≡ d
-unfolding put part
-part_end d src a b n i h = let e : n - i ≡ zero = omega arith in rw e
+mid_put a e xs ys h g l =
+    let q : a + length ys ≡ e = omega arith in
+    ap (λ (z : List ℕ). take a xs ++ (ys ++ z)) (Post-is a e xs h ∙ ap (λ (n : ℕ). drop n xs) (sym q))
+    ∙ sym (sets-eq ys xs a (omega arith) ∙ append_assoc (take a xs) ys (drop (a + length ys) xs))
 
 -- a put that begins where another ends
 pub put_next : (v w s : List ℕ) (a b : ℕ) → b ≡ a + length v → put b w (put a v s) ≡ put a (v ++ w) s
@@ -102,11 +70,3 @@ put_next v w s a b e = rw e (put_put v w s a)
 pub length_part : (a n : ℕ) (s : List ℕ) → a + n ≤ length s → length (part a n s) ≡ n
 unfolding part
 length_part a n s h = simp (length-take, length-drop) (omega arith)
-
-pub clear_turn : (d : List ℕ) (a i n : ℕ) → i < n → put (a + i) (replicate (n - i) 0) d ≡ put (a + (i + 1)) (replicate (n - (i + 1)) 0) (set d (a + i) 0)
-unfolding put
-clear_turn d a i n h = let e : n - i ≡ suc (n - (i + 1)) = omega arith in rw (e, add-one, add-suc)
-
-pub clear_end : (d : List ℕ) (a i n : ℕ) → n ≤ i → put (a + i) (replicate (n - i) 0) d ≡ d
-unfolding put
-clear_end d a i n h = let e : n - i ≡ zero = omega arith in rw e

@@ -3,7 +3,6 @@ pub mod Laws
 pub mod Parts
 pub mod Frame
 pub mod Sames
-pub mod Eights
 pub mod Picks
 pub mod Below
 pub mod Walk

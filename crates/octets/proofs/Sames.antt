@@ -1,7 +1,8 @@
 -- Two lists that the test calls the same are equal, and the other way round.
 -- Assumes nothing.
 use mathlib.Core.Path.{◌≡◌, refl, ap, ◌∙◌}
-use mathlib.Core.Bool.{true}
+use Rattle.std.specs.Cmp.Lexicographic.{pointwise}
+use mathlib.Core.Bool.{true, ◌&&◌, Bool}
 use mathlib.Core.List.{List, [], ◌∷◌}
 use Prim.Native.Nat.{ℕ, ◌<◌}
 use native.Mathlib.Nat as N
@@ -12,6 +13,14 @@ use lib.ListN.{get_or}
 use Rattle.octets.specs.Bytes.{part, same}
 use Rattle.octets.proofs.Parts.{get_d_part}
 use Rattle.octets.proofs.Picks.{and_l, and_r}
+
+-- what `==` tells of two slices
+pub same_pointwise : (s r : List ℕ) → pointwise eqb s r ≡ same s r
+unfolding same
+same_pointwise [] [] = refl
+same_pointwise [] (y ∷ r) = refl
+same_pointwise (x ∷ s) [] = refl
+same_pointwise (x ∷ s) (y ∷ r) = ap (λ (t : Bool). eqb x y && t) (same_pointwise s r)
 
 pub same_self : (s : List ℕ) → same s s ≡ true
 unfolding same

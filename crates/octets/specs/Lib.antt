@@ -1,4 +1,3 @@
 -- What the contracts of `octets`, and of every crate above it, cite.
 pub mod Bytes
 pub mod Sets
-pub mod Answers

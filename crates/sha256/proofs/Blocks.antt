@@ -33,12 +33,30 @@ word_inside h b i low high =
       g,
     )
 
--- words t to u of the block from `at` on
+-- the word at a place of a part
+four_part : (s : List ℕ) (a n i : ℕ) → i + 3 < n → four_at (part a n s) i ≡ four_at s (a + i)
+unfolding four_at
+four_part s a n i h =
+    let p : a + (i + 1) ≡ a + i + 1 = omega arith in
+    let q : a + (i + 2) ≡ a + i + 2 = omega arith in
+    let r : a + (i + 2 + 1) ≡ a + i + 2 + 1 = omega arith in
+    rw (
+      get_d_part a n i s (omega arith),
+      get_d_part a n (i + 1) s (omega arith),
+      get_d_part a n (i + 2) s (omega arith),
+      get_d_part a n (i + 2 + 1) s (omega arith),
+      p,
+      q,
+      r,
+    )
+
+-- words t to u of the block from `at` on, of the body's rest from the first of them on
 pub words_inside : (h b : List ℕ) (at t u : ℕ) → length h ≤ at + 4 * t → at + 4 * u ≤ length h + length b
-    → (j : ℕ) → t + j < u → four_at (pad (h ++ b)) (at + 4 * (t + j)) ≡ four_at b (at + 4 * t - length h + 4 * j)
+    → (j : ℕ) → t + j < u → four_at (pad (h ++ b)) (at + 4 * (t + j)) ≡ four_at (part (at + 4 * t - length h) (length b - (at + 4 * t - length h)) b) (4 * j)
 words_inside h b at t u low high j lt =
-    let e : at + 4 * (t + j) - length h ≡ at + 4 * t - length h + 4 * j = omega arith in
-    sym (word_inside h b (at + 4 * (t + j)) (omega arith) (omega arith)) ∙ ap (four_at b) e
+    let from = at + 4 * t - length h in
+    let e : at + 4 * (t + j) - length h ≡ from + 4 * j = omega arith in
+    sym (word_inside h b (at + 4 * (t + j)) (omega arith) (omega arith)) ∙ ap (four_at b) e ∙ sym (four_part b from (length b - from) (4 * j) (omega arith))
 
 -- the first word, where one byte stands before the body
 pub word_first : (h b : List ℕ) (x : ℕ) → length h ≡ 1 → 3 ≤ length b

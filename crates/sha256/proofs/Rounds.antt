@@ -1,8 +1,7 @@
 -- The shape of a round, and of the sums after the rounds, as the code makes them.
 -- Assumes nothing.
-use Rattle.std.proofs.Common.{◌≡◌, ℕ, ◌+◌, ◌%◌, ◌^◌, ◌<◌, ◌≤◌, List, [], ◌∷◌, get_or, drop, ap, ◌∙◌, ⊎_elim, add-one, arith, get_or-drop, get_or-take}
+use Rattle.std.proofs.Common.{◌≡◌, ℕ, ◌+◌, ◌%◌, ◌^◌, ◌<◌, List, [], ◌∷◌, length, get_or, drop, refl, ap, ◌∙◌, add-one, arith, get_or-drop, get_or-take}
 use Rattle.octets.specs.Bytes.{part}
-use Rattle.octets.proofs.Walk.{lt_or_le}
 use Rattle.sha256.specs.Words.{◌⊞◌}
 use Rattle.sha256.specs.Sha256.{T₁, T₂, round, rounds, sums}
 use Rattle.sha256.specs.Tables.{K}
@@ -26,6 +25,25 @@ pub made_sums : (x y : List ℕ) (a b c d e f g h : ℕ)
     → ◌≡◌ {A = List ℕ} (a ∷ b ∷ c ∷ d ∷ e ∷ f ∷ g ∷ h ∷ []) (sums x y)
 unfolding sums ◌⊞◌
 made_sums x y a b c d e f g h pa pb pc pd pe pf pg ph = rw (pa, pb, pc, pd, pe, pf, pg, ph)
+
+eight_words : (l : List ℕ) → length l ≡ 8
+    → l ≡ get_or l 0 0 ∷ get_or l 1 0 ∷ get_or l 2 0 ∷ get_or l 3 0 ∷ get_or l 4 0 ∷ get_or l 5 0 ∷ get_or l 6 0 ∷ get_or l 7 0 ∷ []
+eight_words [] n = absurd (omega arith)
+eight_words (a ∷ []) n = absurd (omega arith)
+eight_words (a ∷ b ∷ []) n = absurd (omega arith)
+eight_words (a ∷ b ∷ c ∷ []) n = absurd (omega arith)
+eight_words (a ∷ b ∷ c ∷ d ∷ []) n = absurd (omega arith)
+eight_words (a ∷ b ∷ c ∷ d ∷ e ∷ []) n = absurd (omega arith)
+eight_words (a ∷ b ∷ c ∷ d ∷ e ∷ f ∷ []) n = absurd (omega arith)
+eight_words (a ∷ b ∷ c ∷ d ∷ e ∷ f ∷ g ∷ []) n = absurd (omega arith)
+eight_words (a ∷ b ∷ c ∷ d ∷ e ∷ f ∷ g ∷ h ∷ []) n = refl
+eight_words (a ∷ b ∷ c ∷ d ∷ e ∷ f ∷ g ∷ h ∷ i ∷ l) n = absurd (omega arith)
+
+-- eight words that were added one by one
+pub added_sums : (x y l : List ℕ) → length l ≡ 8 → ((k : ℕ) → k < 8 → get_or l k 0 ≡ (get_or x k 0 + get_or y k 0) % 2 ^ 32) → l ≡ sums x y
+added_sums x y l n h =
+    eight_words l n
+    ∙ made_sums x y _ _ _ _ _ _ _ _ (h 0 (omega arith)) (h 1 (omega arith)) (h 2 (omega arith)) (h 3 (omega arith)) (h 4 (omega arith)) (h 5 (omega arith)) (h 6 (omega arith)) (h 7 (omega arith))
 
 -- one more round
 pub rounds_step : (w s₀ s r : List ℕ) (t k : ℕ) → s ≡ rounds w t s₀ → k ≡ get_or K t 0 → r ≡ round s k (get_or w t 0) → r ≡ rounds w (t + 1) s₀
@@ -61,15 +79,3 @@ rounds_eight w first k h s₁ s₂ s₃ s₄ s₅ s₆ s₇ s₈ t hk h₀ h₁ 
     let r₆ = round_on w first k t hk 5 (omega arith) s₅ s₆ r₅ h₆ in
     let r₇ = round_on w first k t hk 6 (omega arith) s₆ s₇ r₆ h₇ in
     round_on w first k t hk 7 (omega arith) s₇ s₈ r₇ h₈
-
--- ---- the last of eight cases
-
-below_four : (q : ℕ) → q < 4 → (q ≡ 0 → ⊥) → (q ≡ 1 → ⊥) → (q ≡ 2 → ⊥) → (q ≡ 3 → ⊥) → ⊥
-below_four q lt a b c d = omega arith
-
-from_four : (q : ℕ) → 4 ≤ q → q < 8 → (q ≡ 4 → ⊥) → (q ≡ 5 → ⊥) → (q ≡ 6 → ⊥) → q ≡ 7
-from_four q ge lt a b c = omega arith
-
-pub last_case : (q : ℕ) → q < 8 → (q ≡ 0 → ⊥) → (q ≡ 1 → ⊥) → (q ≡ 2 → ⊥) → (q ≡ 3 → ⊥) → (q ≡ 4 → ⊥) → (q ≡ 5 → ⊥) → (q ≡ 6 → ⊥) → q ≡ 7
-last_case q lt a b c d e f g =
-    ⊎_elim (λ (h : q < 4). absurd (below_four q h a b c d)) (λ (h : 4 ≤ q). from_four q h lt e f g) (lt_or_le q 4)

@@ -7,9 +7,8 @@ ghost use Rattle.sha256.specs.Words.{rotr, ch, maj, Σ₀, Σ₁, σ₀, σ₁};
 ghost use Rattle.sha256.specs.Tables.{K, H0};
 ghost use Rattle.sha256.specs.Sha256.{T₁, T₂, expand, round, sums, words, rounds, compress};
 
-use std::num::wrapping_add_u32;
-
 // The 64 round constants, eight to a table: read at places known before, so that no table is copied to the stack.
+// Stays: one table of 64, read in a loop, would be copied to the stack, which has to be small.
 const K0: [u32; 8] = [
     0x428a2f98, 0x71374491, 0xb5c0fbcf, 0xe9b5dba5, 0x3956c25b, 0x59f111f1, 0x923f82a4, 0xab1c5ed5,
 ];
@@ -48,6 +47,7 @@ const H0: [u32; 8] = [
 ];
 
 // x turned to the right by n places.
+// Stays: document 01 names this form, a rotation helper from shifts and or.
 fn turn(x: u32, n: u32) -> u32
     requires { (0 < n) × (n < 32) }
     ensures { result ≡ rotr n x }
@@ -70,6 +70,7 @@ fn majority(x: u32, y: u32, z: u32) -> u32
 }
 
 // Turned by 2, 13 and 22 places, for the first working word.
+// Stays: the standard names each of these four functions, and the definitions with it (Σ₀, Σ₁, σ₀, σ₁); two of them shift besides.
 fn big0(x: u32) -> u32
     ensures { result ≡ Σ₀ x }
 {
@@ -101,51 +102,37 @@ fn small1(x: u32) -> u32
 fn expanded(w2: u32, w7: u32, w15: u32, w16: u32) -> u32
     ensures { result ≡ expand w2 w7 w15 w16 }
 {
-    let a = wrapping_add_u32(small1(w2), w7);
-    let b = wrapping_add_u32(a, small0(w15));
-    wrapping_add_u32(b, w16)
+    small1(w2)
+        .wrapping_add(w7)
+        .wrapping_add(small0(w15))
+        .wrapping_add(w16)
 }
 
 // The first of a round's two sums.
 fn first(e: u32, f: u32, g: u32, h: u32, k: u32, w: u32) -> u32
     ensures { result ≡ T₁ e f g h k w }
 {
-    let a = wrapping_add_u32(h, big1(e));
-    let b = wrapping_add_u32(a, choice(e, f, g));
-    let c = wrapping_add_u32(b, k);
-    wrapping_add_u32(c, w)
+    h.wrapping_add(big1(e))
+        .wrapping_add(choice(e, f, g))
+        .wrapping_add(k)
+        .wrapping_add(w)
 }
 
 // The second of a round's two sums.
 fn second(a: u32, b: u32, c: u32) -> u32
     ensures { result ≡ T₂ a b c }
 {
-    wrapping_add_u32(big0(a), majority(a, b, c))
+    big0(a).wrapping_add(majority(a, b, c))
 }
 
 // One round on the eight working words.
 fn turned(s: [u32; 8], k: u32, w: u32) -> [u32; 8]
     ensures { result ≡ round s k w }
 {
-    let x = first(s[4], s[5], s[6], s[7], k, w);
-    let y = second(s[0], s[1], s[2]);
-    let a = wrapping_add_u32(x, y);
-    let e = wrapping_add_u32(s[3], x);
-    [a, s[0], s[1], s[2], e, s[4], s[5], s[6]]
-}
-
-// A byte as a word.
-fn wide(x: u8) -> u32
-    ensures { (result ≡ x) × (result < 256) }
-{
-    x as u32
-}
-
-// Four bytes as a word, high byte first.
-pub fn four(a: u8, b: u8, c: u8, d: u8) -> u32
-    ensures { result ≡ (a * 256 + b) * 65536 + (c * 256 + d) }
-{
-    wide(a) * 16777216 + wide(b) * 65536 + wide(c) * 256 + wide(d)
+    let [a, b, c, d, e, f, g, h] = s;
+    let x = first(e, f, g, h, k, w);
+    let y = second(a, b, c);
+    [x.wrapping_add(y), a, b, c, d.wrapping_add(x), e, f, g]
 }
 
 // The constants of rounds 8 q to 8 q + 7.
@@ -166,6 +153,7 @@ fn constants(q: usize) -> [u32; 8]
 }
 
 // Rounds 8 q to 8 q + 7: after eight of them every working word stands where it stood.
+// Stays: written out, for the words then stay in registers, and a constant's place is known before.
 fn turned_eight(h: [u32; 8], w: &[u32; 64], q: usize) -> [u32; 8]
     requires { q < 8 }
     ensures { (s : List ℕ) → h ≡ rounds w.now (8 * q) s → result ≡ rounds w.now (8 * q + 8) s }
@@ -187,11 +175,9 @@ fn turned_all(h: [u32; 8], w: &[u32; 64]) -> [u32; 8]
     ensures { result ≡ rounds w.now 64 h }
 {
     let mut s = h;
-    let mut q: usize = 0;
-    while q < 8 {
+    for q in 0..8 {
         let next = turned_eight(s, w, q);
         s = next;
-        q += 1;
     }
     s
 }
@@ -200,16 +186,11 @@ fn turned_all(h: [u32; 8], w: &[u32; 64]) -> [u32; 8]
 fn added(x: [u32; 8], y: [u32; 8]) -> [u32; 8]
     ensures { result ≡ sums x y }
 {
-    [
-        wrapping_add_u32(x[0], y[0]),
-        wrapping_add_u32(x[1], y[1]),
-        wrapping_add_u32(x[2], y[2]),
-        wrapping_add_u32(x[3], y[3]),
-        wrapping_add_u32(x[4], y[4]),
-        wrapping_add_u32(x[5], y[5]),
-        wrapping_add_u32(x[6], y[6]),
-        wrapping_add_u32(x[7], y[7]),
-    ]
+    let mut sums = x;
+    for i in 0..8 {
+        sums[i] = sums[i].wrapping_add(y[i]);
+    }
+    sums
 }
 
 // The schedule words after the first sixteen.
@@ -217,11 +198,8 @@ fn expand_rest(w: &mut [u32; 64])
     requires { length w.old ≡ 64 }
     ensures { (length w.new ≡ 64) × ((b : List ℕ) → take 16 w.old ≡ words b 16 → w.new ≡ words b 64) }
 {
-    let mut t: usize = 16;
-    while t < 64 {
-        let x = expanded(w[t - 2], w[t - 7], w[t - 15], w[t - 16]);
-        w[t] = x;
-        t += 1;
+    for t in 16..64 {
+        w[t] = expanded(w[t - 2], w[t - 7], w[t - 15], w[t - 16]);
     }
 }
 
@@ -231,8 +209,7 @@ pub fn mixed(h: [u32; 8], w: &mut [u32; 64]) -> [u32; 8]
     ensures { (length w.new ≡ 64) × ((b : List ℕ) → take 16 w.old ≡ words b 16 → result ≡ compress h b) }
 {
     expand_rest(w);
-    let s = turned_all(h, w);
-    added(h, s)
+    added(h, turned_all(h, w))
 }
 
 // The chaining words before the first block.

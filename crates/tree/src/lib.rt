@@ -38,12 +38,10 @@ pub fn nodes(n: usize, i: usize, d: usize) -> usize
     ensures { (result ≡ depth (around n d i) i) × (result ≤ d) }
 {
     let mut count: usize = 0;
-    let mut e: usize = 0;
-    while e < d {
+    for e in 0..d {
         if middle_of(i, e) < n {
             count += 1;
         }
-        e += 1;
     }
     count
 }
@@ -55,14 +53,14 @@ fn side(i: usize, m: usize) -> usize
     if i < m { 0 } else { 32 }
 }
 
-// The 64 bytes that are hashed for a node after its prefix: the digest of h from `at` on, 0 or 32, and the path's node from a place on in the other half.
-fn set_pair(pair: &mut [u8], h: &[u32; 8], at: usize, path: &[u8], from: usize)
-    requires { (length pair.old ≡ 64) × (length h.now ≡ 8) × (at ≤ 32) × (from + 32 ≤ length path.now) }
-    ensures { (at ≡ 0 → pair.new ≡ digest h.now ++ part from 32 path.now)
-        × (at ≡ 32 → pair.new ≡ part from 32 path.now ++ digest h.now) }
+// The 64 bytes that are hashed for a node after its prefix: the digest of h from `at` on, 0 or 32, and the path's node in the other half.
+fn set_pair(pair: &mut [u8], h: &[u32; 8], at: usize, node: &[u8])
+    requires { (length pair.old ≡ 64) × (length h.now ≡ 8) × (at ≤ 32) × (length node.now ≡ 32) }
+    ensures { (at ≡ 0 → pair.new ≡ digest h.now ++ node.now)
+        × (at ≡ 32 → pair.new ≡ node.now ++ digest h.now) }
 {
     sha256_strings::put_digest(h, pair, at);
-    octets::copy_part(pair, 32 - at, path, from, 32);
+    octets::copy_at(pair, 32 - at, node);
 }
 
 // The digest of h, the hash of the tree d levels high that leaf i is in, taken up a level: beside node j of the path, or alone. How many nodes are
@@ -84,7 +82,7 @@ fn rise(
     if n <= m {
         return j;
     }
-    set_pair(pair, h, side(i, m), path, 32 * j);
+    set_pair(pair, h, side(i, m), &path[32 * j..32 * j + 32]);
     sha256_strings::take_all(h, b"\x01", pair);
     j + 1
 }
@@ -97,11 +95,8 @@ fn rise_up(h: &mut [u32; 8], pair: &mut [u8], path: &[u8], n: usize, i: usize)
         × ((f : List ℕ) → digest h.old ≡ leaf_hash sha256 f → digest h.new ≡ climb sha256 (node_of path.now) (tree_of n) i f) }
 {
     let mut j: usize = 0;
-    let mut d: usize = 0;
-    while d < 6 {
-        let next = rise(h, pair, path, n, i, j, d);
-        j = next;
-        d += 1;
+    for d in 0..6 {
+        j = rise(h, pair, path, n, i, j, d);
     }
 }
 
@@ -155,5 +150,5 @@ pub fn leaf_count(n: usize, d: usize, a: usize) -> usize
     requires { (n ≤ 64) × (a < n) × (d ≤ 6) }
     ensures { (result ≡ min n (a + 2 ^ d) - a) × (0 < result) × (a + result ≤ n) }
 {
-    octets::least(n, a + width(d)) - a
+    n.min(a + width(d)) - a
 }

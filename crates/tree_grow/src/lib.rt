@@ -10,23 +10,22 @@ ghost use Rattle.tree.specs.Area.{leaf_at, Rooms};
 
 use tree::{beside_of, middle_of, nodes, width};
 
-// The chaining words of the hash of the leaf that stands in a buffer: len bytes from a place on.
-fn take_leaf(h: &mut [u32; 8], buffer: &[u8], from: usize, len: usize)
-    requires { (len ≤ 65535) × (from + len ≤ length buffer.now) }
-    ensures { (length h.new ≡ 8) × (digest h.new ≡ leaf_hash sha256 (part from len buffer.now)) }
+// The chaining words of the hash of a leaf.
+fn take_leaf(h: &mut [u32; 8], leaf: &[u8])
+    requires { length leaf.now ≤ 65535 }
+    ensures { (length h.new ≡ 8) × (digest h.new ≡ leaf_hash sha256 leaf.now) }
 {
-    let to = from + len;
-    sha256_strings::take_all(h, b"\0", &buffer[from..to]);
+    sha256_strings::take_all(h, b"\0", leaf);
 }
 
-// The chaining words of the hash of a node over the nodes of a buffer from p and from q on.
-fn take_node(h: &mut [u32; 8], buffer: &[u8], p: usize, q: usize)
-    requires { (p + 32 ≤ length buffer.now) × (q + 32 ≤ length buffer.now) }
-    ensures { (length h.new ≡ 8) × (digest h.new ≡ node_hash sha256 (part p 32 buffer.now) (part q 32 buffer.now)) }
+// The chaining words of the hash of a node over two nodes.
+fn take_node(h: &mut [u32; 8], left: &[u8], right: &[u8])
+    requires { (length left.now ≡ 32) × (length right.now ≡ 32) }
+    ensures { (length h.new ≡ 8) × (digest h.new ≡ node_hash sha256 left.now right.now) }
 {
     let mut pair = [0u8; 64];
-    octets::copy_part(&mut pair, 0, buffer, p, 32);
-    octets::copy_part(&mut pair, 32, buffer, q, 32);
+    octets::copy_at(&mut pair, 0, left);
+    octets::copy_at(&mut pair, 32, right);
     sha256_strings::take_all(h, b"\x01", &pair);
 }
 
@@ -35,14 +34,12 @@ fn fork_of(n: usize, d: usize, a: usize) -> usize
     requires { (a < 64) × (d ≤ 6) }
     ensures { (result ≤ d) × (span n result a ≡ span n d a) × (0 < result → a + 2 ^ (result - 1) < n) }
 {
-    let mut e = d;
-    while 0 < e {
-        if a + width(e - 1) < n {
-            return e;
+    for e in (0..d).rev() {
+        if a + width(e) < n {
+            return e + 1;
         }
-        e -= 1;
     }
-    e
+    0
 }
 
 // Where in the paths leaf i's path goes on at level d.
@@ -71,23 +68,22 @@ fn take_tree(
 {
     let e = fork_of(n, d, a);
     if e < 1 {
-        take_leaf(h, area, a * s, len);
+        take_leaf(h, &area[a * s..a * s + len]);
         return;
     }
     let m = a + width(e - 1);
-    take_node(h, paths, place(n, m, e - 1), place(n, a, e - 1));
+    let p = place(n, m, e - 1);
+    let q = place(n, a, e - 1);
+    take_node(h, &paths[p..p + 32], &paths[q..q + 32]);
 }
 
 // The 32 bytes from a place on, once more at a place after them.
+// Stays: one line of the library's, under the definition that callers cite (`put`).
 fn repeat_at(s: &mut [u8], from: usize, to: usize)
     requires { (from + 32 ≤ to) × (to + 32 ≤ length s.old) }
     ensures { s.new ≡ put to (part from 32 s.old) s.old }
 {
-    let mut k: usize = 0;
-    while k < 32 {
-        s[to + k] = s[from + k];
-        k += 1;
-    }
+    s.copy_within(from..from + 32, to);
 }
 
 // The paths of the leaves of the tree d levels high from leaf c on, a level further: h has the hash of the tree beside it. It is written once, and
@@ -98,11 +94,8 @@ fn lay(paths: &mut [u8], n: usize, d: usize, c: usize, h: &[u32; 8])
 {
     let from = place(n, c, d);
     sha256_strings::put_digest(h, paths, from);
-    let end = octets::least(n, c + width(d));
-    let mut i = c + 1;
-    while i < end {
+    for i in c + 1..n.min(c + width(d)) {
         repeat_at(paths, from, place(n, i, d));
-        i += 1;
     }
 }
 
@@ -121,15 +114,12 @@ fn further(
     requires { Rooms n s len area.now paths.old × (d < 6) }
     ensures { (old : List ℕ) → paths.old ≡ paths_to n (leaf_at s len area.now) d 0 old → paths.new ≡ paths_to n (leaf_at s len area.now) (d + 1) 0 old }
 {
-    let w = width(d);
-    let mut c: usize = 0;
-    while c < n {
+    for c in (0..n).step_by(width(d)) {
         if n <= middle_of(c, d) {
             return;
         }
         take_tree(h, area, s, len, n, d, beside_of(c, d), paths);
         lay(paths, n, d, c, h);
-        c += w;
     }
 }
 
@@ -139,10 +129,8 @@ pub fn write_tree(area: &[u8], s: usize, len: usize, n: usize, root: &mut [u8], 
     ensures { (root.new ≡ put 0 (root_of n (leaf_at s len area.now)) root.old) × (paths.new ≡ place_each n 192 (λ i. flat (path_of n (leaf_at s len area.now) i)) paths.old) }
 {
     let mut h = sha256::begun();
-    let mut d: usize = 0;
-    while d < 6 {
+    for d in 0..6 {
         further(&mut h, area, s, len, n, d, paths);
-        d += 1;
     }
     take_tree(&mut h, area, s, len, n, 6, 0, paths);
     sha256_strings::put_digest(&h, root, 0);

@@ -72,12 +72,14 @@ node_put k a w first h new e fits f c d =
     hash_put (1 ∷ take k (drop a w)) first h w new a 128 (sym (padded 1 k a 64 w e fits)) f c d
     ∙ ap (λ (l : List ℕ). put a (sha256 (1 ∷ l)) w) (side_by_side k a w e)
 
-pub leaf_put : (k a n at : ℕ) (s w first h new : List ℕ) → k ≡ n → a + n ≤ length s → first ≡ H0
-    → h ≡ chain_from first ((n + 73) / 64 * 64 / 64) (pad (0 ∷ take k (drop a s))) → new ≡ put at (digest h) w → new ≡ put at (leaf_hash sha256 (part a n s)) w
-unfolding leaf_hash part
-leaf_put k a n at s w first h new e fits f c d =
-    hash_put (0 ∷ take k (drop a s)) first h w new at ((n + 73) / 64 * 64) (sym (padded 0 k a n s e fits)) f c d
-    ∙ ap (λ (k : ℕ). put at (sha256 (0 ∷ take k (drop a s))) w) e
+-- the string of a byte and a leaf is hashed in full
+pub padded_leaf : (x : ℕ) (f : List ℕ) → length (pad (x ∷ f)) ≡ (length f + 73) / 64 * 64
+padded_leaf x f = omega (arith, length_pad (x ∷ f))
+
+pub leaf_put : (at : ℕ) (f w first h new : List ℕ) → first ≡ H0 → h ≡ chain_from first ((length f + 73) / 64 * 64 / 64) (pad (0 ∷ f)) → new ≡ put at (digest h) w
+    → new ≡ put at (leaf_hash sha256 f) w
+unfolding leaf_hash
+leaf_put at f w first h new e c d = hash_put (0 ∷ f) first h w new at ((length f + 73) / 64 * 64) (sym (padded_leaf 0 f)) e c d
 
 -- ---- what waits
 

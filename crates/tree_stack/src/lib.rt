@@ -15,17 +15,17 @@ pub fn top_of(i: usize) -> usize
     requires { i < 64 }
     ensures { (result ≡ top 0 i) × (result ≤ 192) }
 {
-    32 * (u64::count_ones(i as u64) as usize)
+    32 * i.count_ones() as usize
 }
 
-// The two hashes from `at` on become that of the node over them.
+// The two hashes from `at` on become that of the node over them. (Taken into the functions that call it: a delivering step pays for no frame of its own.)
+#[inline(always)]
 fn join(stack: &mut [u8], at: usize)
     requires { (at ≤ 160) × (224 ≤ length stack.old) }
     ensures { stack.new ≡ put at (node_hash sha256 (part at 32 stack.old) (part (at + 32) 32 stack.old)) stack.old }
 {
-    let to = at + 64;
     let mut h = sha256::begun();
-    sha256_strings::absorb(&mut h, b"\x01", &stack[at..to], 128);
+    sha256_strings::absorb(&mut h, b"\x01", &stack[at..at + 64], 128);
     sha256_strings::put_digest(&h, stack, at);
 }
 
@@ -35,10 +35,7 @@ fn stays(i: usize, n: usize, d: usize) -> bool
     ensures { result ≡ (ltb i (middle d i) && ltb (middle d i) n) }
 {
     let m = tree::middle_of(i, d);
-    if m <= i {
-        return false;
-    }
-    m < n
+    i < m && m < n
 }
 
 // The hash of the tree d levels high that leaf i is in, which stands at `at`, taken up a level: over what waits on its left, or alone. Where it
@@ -65,39 +62,37 @@ fn levels_of(n: usize) -> usize
     if n < 65 { 6 } else { 7 }
 }
 
-// Leaf i of n, whose hash is on top, taken up as far as it goes. After the last leaf the root stands first.
+// Leaf i of n, whose hash is on top, taken up as far as it goes. After the last leaf the root stands first. (Taken in likewise.)
+#[inline(always)]
 pub fn raise(stack: &mut [u8], i: usize, n: usize)
     requires { (i < n) × (n ≤ 64) × (224 ≤ length stack.old) }
     ensures { (fs : ℕ → List ℕ) → part (top 0 i) 32 stack.old ≡ leaf_hash sha256 (fs i) → Waiting n fs i stack.old → Raised n fs i stack.new }
 {
     let mut at = top_of(i);
-    let mut d: usize = 0;
-    while d < levels_of(n) {
+    for d in 0..levels_of(n) {
         if stays(i, n, d) {
             return;
         }
         at = lift(stack, at, i, d);
-        d += 1;
     }
 }
 
-// The hash of the leaf that stands in a buffer, len bytes from a place on, put in.
-pub fn put_leaf(buffer: &[u8], from: usize, len: usize, stack: &mut [u8], at: usize)
-    requires { (len ≤ 65535) × (from + len ≤ length buffer.now) × (at + 32 ≤ length stack.old) }
-    ensures { stack.new ≡ put at (leaf_hash sha256 (part from len buffer.now)) stack.old }
+// The hash of a leaf, put in.
+pub fn put_leaf(leaf: &[u8], stack: &mut [u8], at: usize)
+    requires { (length leaf.now ≤ 65535) × (at + 32 ≤ length stack.old) }
+    ensures { stack.new ≡ put at (leaf_hash sha256 leaf.now) stack.old }
 {
-    let to = from + len;
     let mut h = sha256::begun();
-    sha256_strings::absorb(&mut h, b"\0", &buffer[from..to], (len + 73) / 64 * 64);
+    sha256_strings::absorb(&mut h, b"\0", leaf, (leaf.len() + 73) / 64 * 64);
     sha256_strings::put_digest(&h, stack, at);
 }
 
-// Leaf i of n, which stands in a buffer, len bytes from a place on, after those before it.
-pub fn add_leaf(stack: &mut [u8], i: usize, n: usize, buffer: &[u8], from: usize, len: usize)
-    requires { (i < n) × (n ≤ 64) × (224 ≤ length stack.old) × (len ≤ 65535) × (from + len ≤ length buffer.now) }
-    ensures { (fs : ℕ → List ℕ) → part from len buffer.now ≡ fs i → Waiting n fs i stack.old → Raised n fs i stack.new }
+// Leaf i of n, after those before it.
+pub fn add_leaf(stack: &mut [u8], i: usize, n: usize, leaf: &[u8])
+    requires { (i < n) × (n ≤ 64) × (224 ≤ length stack.old) × (length leaf.now ≤ 65535) }
+    ensures { (fs : ℕ → List ℕ) → leaf.now ≡ fs i → Waiting n fs i stack.old → Raised n fs i stack.new }
 {
-    put_leaf(buffer, from, len, stack, top_of(i));
+    put_leaf(leaf, stack, top_of(i));
     raise(stack, i, n);
 }
 
@@ -121,12 +116,12 @@ fn lift_beside(
         return at;
     }
     if i < m {
-        octets::copy_part(stack, at + 32, path, 32 * j, 32);
+        octets::copy_at(stack, at + 32, &path[32 * j..32 * j + 32]);
         join(stack, at);
         return at;
     }
     let low = at - 32;
-    octets::copy_part(stack, low, path, 32 * j, 32);
+    octets::copy_at(stack, low, &path[32 * j..32 * j + 32]);
     join(stack, low);
     low
 }
@@ -138,9 +133,7 @@ pub fn climb_up(stack: &mut [u8], path: &[u8], n: usize, i: usize)
         → part 0 32 stack.new ≡ climb sha256 (node_of path.now) (tree_of n) i f }
 {
     let mut at = top_of(i);
-    let mut d: usize = 0;
-    while d < 6 {
+    for d in 0..6 {
         at = lift_beside(stack, at, path, n, i, tree::nodes(n, i, d), d);
-        d += 1;
     }
 }

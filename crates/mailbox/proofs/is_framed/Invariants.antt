@@ -6,6 +6,3 @@ use Rattle.mailbox.proofs.is_framed.Given as goal
 
 abbrev pub invariant-loop-i : goal.invariant-loop-i
 invariant-loop-i l = (l.i ≤ l.count) × (l.at ≤ length l.mailbox) × (complete (l.count - l.i) l.at l.mailbox ≡ framed l.mailbox)
-
-abbrev pub decreases-loop-i : goal.decreases-loop-i
-decreases-loop-i l = l.count - l.i

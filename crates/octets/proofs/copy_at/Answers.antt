@@ -1,15 +1,15 @@
-use mathlib.Core.Path.{refl, ◌∙◌, sym}
+use mathlib.Core.Path.{◌∙◌, ap}
 use native.Mathlib.Omega.{arith}
-use native.Mathlib.Nat.{add-zero}
-use lib.ListN.{length-set}
-use Rattle.octets.proofs.Laws.{put_turn, put_end}
+use Prim.Native.Nat.{◌+◌}
+use mathlib.Core.List.{List}
+use Prim.Native.Nat.{ℕ}
+use lib.ListN.{length}
+use Rattle.octets.specs.Bytes.{put}
+use Rattle.octets.proofs.Laws.{mid_put}
 use Rattle.octets.proofs.copy_at.Goals as goal
 
-pub loop-i-init : goal.loop-i-init
-loop-i-init c = (omega arith, (rw add-zero, refl))
-
-pub loop-i-preserved : goal.loop-i-preserved
-loop-i-preserved c = (omega arith, (sym (put_turn _ _ _ _ c.loop-i-test.true) ∙ c.loop-i.invariant.1.0, simp length-set c.loop-i.invariant.1.1))
-
 pub returns : goal.returns
-returns c = sym (put_end _ _ _ _ c.loop-i-test.false) ∙ c.loop-i.invariant.1.0
+returns c =
+    let a = c.args in
+    mid_put a.at (a.at + length a.src.now) a.dst.now c.copy_from_slice.new.self (omega arith) (omega arith) (omega arith)
+    ∙ ap (λ (v : List ℕ). put a.at v a.dst.now) c.copy_from_slice.ensures.after

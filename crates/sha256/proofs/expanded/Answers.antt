@@ -1,4 +1,3 @@
--- `sha256::expanded` meets its contract. Assumes nothing.
 use Rattle.sha256.specs.Sha256.{expand}
 use Rattle.sha256.specs.Words.{◌⊞◌}
 use Rattle.sha256.proofs.expanded.Goals as goal

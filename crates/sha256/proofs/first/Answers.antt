@@ -1,4 +1,3 @@
--- `sha256::first` meets its contract. Assumes nothing.
 use Rattle.sha256.specs.Sha256.{T₁}
 use Rattle.sha256.specs.Words.{◌⊞◌}
 use Rattle.sha256.proofs.first.Goals as goal

@@ -5,4 +5,4 @@ use Rattle.sha256.proofs.mixed.Goals as goal
 pub returns : goal.returns
 returns c =
     let e = c.expand_rest.ensures in
-    (e.0, λ b h. mixed_made b _ _ _ _ (e.1 b h) c.turned_all-s.ensures c.added.ensures)
+    (e.0, λ b h. mixed_made b _ _ _ _ (e.1 b h) c.turned_all.ensures c.added.ensures)

@@ -1,4 +1,3 @@
--- `sha256::second` meets its contract. Assumes nothing.
 use Rattle.sha256.specs.Sha256.{T₂}
 use Rattle.sha256.specs.Words.{◌⊞◌}
 use Rattle.sha256.proofs.second.Goals as goal

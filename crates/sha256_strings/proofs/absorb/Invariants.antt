@@ -1,5 +1,5 @@
 -- `sha256_strings::absorb` meets its contract. Assumes nothing.
-use Prim.Native.Nat.{◌≤◌, ◌-◌, ◌/◌, ◌%◌}
+use Prim.Native.Nat.{◌≤◌, ◌/◌, ◌%◌}
 use mathlib.Core.Path.{◌≡◌}
 use mathlib.Core.List.{◌++◌}
 use Rattle.sha256.specs.Sha256.{pad}
@@ -8,6 +8,3 @@ use Rattle.sha256_strings.proofs.absorb.Given as goal
 
 abbrev pub invariant-loop-at : goal.invariant-loop-at
 invariant-loop-at l = (l.at ≤ l.end) × (l.at % 64 ≡ 0) × (l.h ≡ chain_from l.initial.h (l.at / 64) (pad (l.head ++ l.body)))
-
-abbrev pub decreases-loop-at : goal.decreases-loop-at
-decreases-loop-at l = l.end - l.at

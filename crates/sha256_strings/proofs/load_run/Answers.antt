@@ -3,7 +3,7 @@ use Prim.Native.Nat.{◌+◌, ◌*◌}
 use mathlib.Core.List.{◌++◌}
 use native.Mathlib.Omega.{arith}
 use lib.ListN.{length-set, length-append}
-use Rattle.octets.specs.Bytes.{four_at}
+use Rattle.octets.specs.Bytes.{part, four_at}
 use Rattle.octets.proofs.Tables.{tab_step}
 use Rattle.sha256.specs.Sha256.{pad}
 use Rattle.sha256.proofs.Padding.{length_pad}
@@ -14,15 +14,8 @@ pub inside_end-u-requires : goal.inside_end-u-requires
 inside_end-u-requires c =
     let a = c.args in omega (arith, length-append a.head.now a.body.now, length_pad (a.head.now ++ a.body.now))
 
-pub overflow_sub-at : goal.overflow_sub-at
-overflow_sub-at c =
-    let i = c.inside_end-u.ensures.2 (omega arith) in omega arith
-
-pub load_inside-requires : goal.load_inside-requires
-load_inside-requires c =
-    let i = c.inside_end-u.ensures.2 (omega arith) in omega arith
-
 pub returns-then-t-u : goal.returns-then-t-u
+unfolding part
 returns-then-t-u c =
     let a = c.args in
     let e = c.inside_end-u.ensures in
@@ -35,8 +28,8 @@ returns-then-t-u c =
           (words_inside a.head.now a.body.now a.at a.t u i.0 i.1),
     )
 
-pub other_word-x-requires : goal.other_word-x-requires
-other_word-x-requires c =
+pub other_word-requires : goal.other_word-requires
+other_word-requires c =
     let a = c.args in omega (arith, length-append a.head.now a.body.now, length_pad (a.head.now ++ a.body.now))
 
 pub returns : goal.returns
@@ -45,5 +38,5 @@ returns c =
       simp length-set (omega arith),
       omega arith,
       omega arith,
-      λ h. tab_step (λ j. four_at (pad (a.head.now ++ a.body.now)) (a.at + 4 * j)) a.w.now a.t c.other_word-x.result (omega arith) h c.other_word-x.ensures,
+      λ h. tab_step (λ j. four_at (pad (a.head.now ++ a.body.now)) (a.at + 4 * j)) a.w.now a.t c.other_word.result (omega arith) h c.other_word.ensures,
     )

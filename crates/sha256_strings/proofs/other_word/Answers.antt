@@ -8,7 +8,3 @@ use Rattle.sha256_strings.proofs.other_word.Goals as goal
 pub pad_word-requires : goal.pad_word-requires
 pad_word-requires c =
     let a = c.args in omega (arith, length-append a.head.now a.body.now, length_pad (a.head.now ++ a.body.now))
-
-pub returns : goal.returns
-returns c =
-    let a = c.args in c.pad_word.ensures (a.head.now ++ a.body.now) (length-append a.head.now a.body.now)

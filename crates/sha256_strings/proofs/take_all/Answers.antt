@@ -20,5 +20,5 @@ returns c =
     let a = c.args in
     let n = (length a.head.now + length a.body.now + 72) / 64 * 64 in
     let e : n ≡ length (pad (a.head.now ++ a.body.now)) = omega (arith, length-append a.head.now a.body.now, length_pad (a.head.now ++ a.body.now)) in
-    let first = c.begun-first.ensures in
+    let first = c.begun.ensures in
     (chain_length _ _ _ (n / 64) first c.absorb.ensures, all_blocks (a.head.now ++ a.body.now) _ _ n e first c.absorb.ensures)

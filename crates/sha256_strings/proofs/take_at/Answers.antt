@@ -7,4 +7,4 @@ use Rattle.sha256_strings.proofs.take_at.Goals as goal
 pub returns : goal.returns
 returns c =
     let a = c.args in
-    block_on a.h.now c.mixed-next.result (pad (a.head.now ++ a.body.now)) _ a.at c.requires.1 c.load.ensures.1 c.mixed-next.ensures.1
+    block_on a.h.now c.mixed.result (pad (a.head.now ++ a.body.now)) _ a.at c.requires.1 c.load.ensures.1 c.mixed.ensures.1

@@ -1,13 +1,9 @@
 -- `tree::first_of` meets its contract. Assumes nothing.
 use Prim.Native.Nat.{ℕ, ◌-◌, ◌%◌}
 use mathlib.Core.Path.{ap}
-use native.Mathlib.Nat.{mod-le}
 use native.Mathlib.Omega.{arith}
 use Rattle.tree.specs.Levels.{start}
 use Rattle.tree.proofs.first_of.Goals as goal
-
-pub overflow_sub-result : goal.overflow_sub-result
-overflow_sub-result c = mod-le _ _
 
 pub returns : goal.returns
 unfolding start

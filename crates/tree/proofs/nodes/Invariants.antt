@@ -1,5 +1,5 @@
 -- `tree::nodes` meets its contract. Assumes nothing.
-use Prim.Native.Nat.{◌≤◌, ◌-◌}
+use Prim.Native.Nat.{◌≤◌}
 use mathlib.Core.Path.{◌≡◌}
 use Rattle.tree.specs.Tree.{depth}
 use Rattle.tree.specs.Levels.{around}
@@ -7,6 +7,3 @@ use Rattle.tree.proofs.nodes.Given as goal
 
 abbrev pub invariant-loop-e : goal.invariant-loop-e
 invariant-loop-e l = (l.e ≤ l.d) × (l.count ≡ depth (around l.n l.e l.i) l.i) × (l.count ≤ l.e)
-
-abbrev pub decreases-loop-e : goal.decreases-loop-e
-decreases-loop-e l = l.d - l.e

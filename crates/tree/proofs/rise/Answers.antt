@@ -1,5 +1,8 @@
 -- `tree::rise` meets its contract. Assumes nothing.
-use mathlib.Core.Path.{sym, ◌∙◌}
+use mathlib.Core.Path.{sym, ap, ◌∙◌}
+use mathlib.Core.List.{List, ◌++◌}
+use Prim.Native.Nat.{ℕ, ◌*◌}
+use Rattle.octets.proofs.Laws.{part_range}
 use native.Mathlib.Omega.{arith}
 use Rattle.sha256.specs.Sha256.{digest, sha256}
 use Rattle.tree.specs.Check.{node_of}
@@ -20,13 +23,16 @@ pub overflow_mul-j : goal.overflow_mul-j
 overflow_mul-j c =
     let a = c.args in omega (arith, node_there a.n a.i a.d (omega arith) (omega arith) (omega arith) (omega arith))
 
-pub set_pair-requires : goal.set_pair-requires
-set_pair-requires c =
-    let a = c.args in
-    let there = node_there a.n a.i a.d (omega arith) (omega arith) (omega arith) (omega arith) in omega arith
+pub overflow_mul-j-2 : goal.overflow_mul-j-2
+overflow_mul-j-2 c =
+    let a = c.args in omega (arith, node_there a.n a.i a.d (omega arith) (omega arith) (omega arith) (omega arith))
 
-pub overflow_add-result : goal.overflow_add-result
-overflow_add-result c =
+pub overflow_add-j : goal.overflow_add-j
+overflow_add-j c =
+    let a = c.args in omega (arith, node_there a.n a.i a.d (omega arith) (omega arith) (omega arith) (omega arith))
+
+pub slice_bounds-set_pair-end : goal.slice_bounds-set_pair-end
+slice_bounds-set_pair-end c =
     let a = c.args in omega (arith, node_there a.n a.i a.d (omega arith) (omega arith) (omega arith) (omega arith))
 
 pub returns : goal.returns
@@ -38,5 +44,6 @@ returns c =
       omega arith,
       omega arith,
       λ f hx. rise_pair a.n a.d a.i a.j s.result a.path.now (digest a.h.now) _ _ f c.requires.3 (omega arith)
-          (λ lt. s.ensures.1 (omega arith)) (λ ge. s.ensures.2 (omega arith)) c.set_pair.ensures.0 c.set_pair.ensures.1 c.take_all.ensures.1 hx,
+          (λ lt. s.ensures.1 (omega arith)) (λ ge. s.ensures.2 (omega arith)) (λ e. c.set_pair.ensures.0 e ∙ ap (λ (y : List ℕ). digest a.h.now ++ y) (part_range (32 * a.j) 32 a.path.now))
+          (λ e. c.set_pair.ensures.1 e ∙ ap (λ (y : List ℕ). y ++ digest a.h.now) (part_range (32 * a.j) 32 a.path.now)) c.take_all.ensures.1 hx,
     )

@@ -14,12 +14,6 @@ loop-d-init c =
     let a = c.args in
     (omega arith, sym (depth_least a.n a.i), omega arith, omega arith, λ f h. h ∙ sym (climb_none a.n a.i sha256 (node_of a.path.now) f))
 
-pub loop-d-preserved : goal.loop-d-preserved
-loop-d-preserved c =
-    let l = c.loop-d in
-    let r = c.rise-next.ensures in
-    (omega arith, r.2, r.0, r.1, λ f h. r.3 f (l.invariant.4 f h))
-
 pub returns : goal.returns
 returns c =
     let l = c.loop-d in

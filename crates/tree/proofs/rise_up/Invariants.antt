@@ -1,5 +1,5 @@
 -- `tree::rise_up` meets its contract. Assumes nothing.
-use Prim.Native.Nat.{ℕ, ◌≤◌, ◌-◌}
+use Prim.Native.Nat.{ℕ, ◌≤◌}
 use mathlib.Core.Path.{◌≡◌}
 use mathlib.Core.List.{List}
 use lib.ListN.{length}
@@ -11,6 +11,3 @@ use Rattle.tree.proofs.rise_up.Given as goal
 
 abbrev pub invariant-loop-d : goal.invariant-loop-d
 invariant-loop-d l = (l.d ≤ 6) × (l.j ≡ depth (around l.n l.d l.i) l.i) × (length l.h ≡ 8) × (length l.pair ≡ 64) × ((f : List ℕ) → digest l.initial.h ≡ leaf_hash sha256 f → digest l.h ≡ climb sha256 (node_of l.path) (around l.n l.d l.i) l.i f)
-
-abbrev pub decreases-loop-d : goal.decreases-loop-d
-decreases-loop-d l = 6 - l.d

@@ -6,6 +6,3 @@ use Rattle.tree_grow.proofs.fork_of.Given as goal
 
 abbrev pub invariant-loop-e : goal.invariant-loop-e
 invariant-loop-e l = (l.e ≤ l.d) × (span l.n l.e l.a ≡ span l.n l.d l.a)
-
-abbrev pub decreases-loop-e : goal.decreases-loop-e
-decreases-loop-e l = l.e

@@ -33,17 +33,12 @@ take_tree-requires c =
       subst (λ (x : ℕ). start a.d x ≡ x) (sym e) (beside_first a.d l.c),
     )
 
-pub lay-requires : goal.lay-requires
-lay-requires c =
-    let l = c.loop-c in
-    (omega arith, omega arith, omega arith, l.invariant.1, omega arith, omega arith, c.take_tree.ensures.0)
-
 pub loop-c-preserved : goal.loop-c-preserved
 loop-c-preserved c =
     let a = c.args in
     let l = c.loop-c in
     let fs = leaf_at a.s a.len a.area.now in
-    let next : l.c + 2 ^ a.d ≡ l.c + c.width-w.result = omega arith in (
+    let next : l.c + 2 ^ a.d ≡ l.c + c.width-c-step.result = omega arith in (
       omega arith,
       subst (λ (x : ℕ). start a.d x ≡ x) next (start_next a.d l.c l.invariant.1),
       omega arith,
@@ -59,3 +54,13 @@ returns c =
     let a = c.args in
     let l = c.loop-c in
     l.invariant.3 old hp ∙ paths_done a.n (leaf_at a.s a.len a.area.now) a.d l.c old (omega arith)
+
+pub returns-else-n-middle_of : goal.returns-else-n-middle_of
+returns-else-n-middle_of c =
+    λ old hp.
+    let a = c.args in
+    let l = c.loop-c in
+    let fs = leaf_at a.s a.len a.area.now in
+    let now = l.invariant.3 old hp in
+    c.lay.ensures fs old (c.take_tree.ensures.1 l.c old now ∙ ap (λ (x : ℕ). root sha256 fs (span a.n a.d x)) c.beside_of.ensures) now
+    ∙ paths_done a.n fs a.d (l.c + 2 ^ a.d) old (omega arith)

@@ -1,5 +1,5 @@
 -- `tree_grow::further` meets its contract. Assumes nothing.
-use Prim.Native.Nat.{ℕ, ◌≤◌, ◌-◌}
+use Prim.Native.Nat.{ℕ, ◌≤◌}
 use mathlib.Core.Path.{◌≡◌}
 use mathlib.Core.List.{List}
 use lib.ListN.{length}
@@ -9,6 +9,3 @@ use Rattle.tree_grow.proofs.further.Given as goal
 
 abbrev pub invariant-loop-c : goal.invariant-loop-c
 invariant-loop-c l = (l.c ≤ 128) × (start l.d l.c ≡ l.c) × (length l.paths ≡ length l.initial.paths) × ((old : List ℕ) → l.initial.paths ≡ paths_to l.n (leaf_at l.s l.len l.area) l.d 0 old → l.paths ≡ paths_to l.n (leaf_at l.s l.len l.area) l.d l.c old)
-
-abbrev pub decreases-loop-c : goal.decreases-loop-c
-decreases-loop-c l = 256 - l.c

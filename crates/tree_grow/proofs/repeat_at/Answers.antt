@@ -1,30 +1,21 @@
-use Prim.Native.Nat.{ℕ, ◌+◌, ◌-◌}
-use mathlib.Core.Path.{refl, sym, ap, ◌∙◌}
+use Prim.Native.Nat.{ℕ, ◌+◌, ◌-◌, ◌≤◌}
+use mathlib.Core.Path.{◌≡◌, ap, sym, ◌∙◌}
+use mathlib.Core.List.{List, ◌++◌}
 use native.Mathlib.Omega.{arith}
-use native.Mathlib.Nat.{add-zero, sub-zero}
-use lib.ListN.{get_or, set, length-set}
-use lib.Seq.{get_or-set_other}
+use lib.ListN.{length, take, drop}
+use lib.Seq.{paste, sets-eq}
 use Rattle.octets.specs.Bytes.{part, put}
-use Rattle.octets.proofs.Laws.{part_turn, part_end}
+use Rattle.octets.proofs.Laws.{length_part}
 use Rattle.tree_grow.proofs.repeat_at.Goals as goal
 
-pub loop-k-init : goal.loop-k-init
-loop-k-init c = (omega arith, omega arith, rw (add-zero, add-zero, sub-zero), λ j h. refl)
-
-pub loop-k-preserved : goal.loop-k-preserved
-loop-k-preserved c =
-    let l = c.loop-k in
-    let a = c.args in
-    let v = get_or l.s (a.from + l.k) 0 in (
-      omega arith,
-      simp length-set l.invariant.1,
-      ap (λ (x : ℕ). put (a.to + (l.k + 1)) (part (a.from + (l.k + 1)) (32 - (l.k + 1)) a.s.now) (set l.s (a.to + l.k) x)) (l.invariant.3 (a.from + l.k) (omega arith))
-          ∙ sym (part_turn l.s a.s.now a.to a.from 32 l.k (omega arith) (omega arith)) ∙ l.invariant.2,
-      λ j h. get_or-set_other l.s (a.to + l.k) j v 0 (λ e. omega arith) ∙ l.invariant.3 j h,
-    )
+pasted : (s : List ℕ) (from to : ℕ) → from + 32 ≤ length s → to + 32 ≤ length s → paste s to (drop from s) 32 ≡ put to (part from 32 s) s
+unfolding part put
+pasted s from to h g =
+    let n = length_part from 32 s h in
+    ap (λ (k : ℕ). (take to s ++ take 32 (drop from s)) ++ drop (to + k) s) (sym n) ∙ sym (sets-eq (take 32 (drop from s)) s to (omega arith))
 
 pub returns : goal.returns
 returns c =
-    let l = c.loop-k in
     let a = c.args in
-    sym (part_end l.s a.s.now a.to a.from 32 l.k (omega arith)) ∙ l.invariant.2
+    let e : a.from + 32 - a.from ≡ 32 = omega arith in
+    c.copy_within.ensures.after ∙ ap (paste a.s.now a.to (drop a.from a.s.now)) e ∙ pasted a.s.now a.from a.to (omega arith) (omega arith)

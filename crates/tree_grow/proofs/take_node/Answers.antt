@@ -2,9 +2,7 @@
 use mathlib.Core.Path.{ap, refl, ◌∙◌}
 use mathlib.Core.List.{List, ◌∷◌}
 use Prim.Native.Nat.{ℕ}
-use native.Mathlib.Omega.{arith}
-use Rattle.octets.specs.Bytes.{part, put}
-use Rattle.octets.proofs.Laws.{length_part}
+use Rattle.octets.specs.Bytes.{put}
 use Rattle.sha256.specs.Sha256.{sha256}
 use Rattle.tree.specs.Tree.{node_hash}
 use Rattle.tree.proofs.Pairs.{pair_left}
@@ -13,9 +11,7 @@ use Rattle.tree_grow.proofs.take_node.Goals as goal
 pub returns : goal.returns
 unfolding node_hash
 returns c =
-    let a = c.args in
-    let x = part a.p 32 a.buffer.now in
-    let y = part a.q 32 a.buffer.now in
-    let both = c.copy_part-2.ensures ∙ ap (put 32 y) c.copy_part.ensures
-    ∙ pair_left x y _ 0 (length_part a.p 32 a.buffer.now (omega arith)) (length_part a.q 32 a.buffer.now (omega arith)) refl refl in
+    let x = c.args.left.now in
+    let y = c.args.right.now in
+    let both = c.copy_at-2.ensures ∙ ap (put 32 y) c.copy_at.ensures ∙ pair_left x y _ 0 c.requires.0 c.requires.1 refl refl in
     (c.take_all.ensures.0, c.take_all.ensures.1 ∙ ap (λ (l : List ℕ). sha256 (1 ∷ l)) both)

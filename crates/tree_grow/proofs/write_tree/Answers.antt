@@ -16,17 +16,8 @@ loop-d-init c =
     let a = c.args in
     (omega arith, omega arith, sym (paths_start a.n (leaf_at a.s a.len a.area.now) a.paths.now))
 
-pub further-requires : goal.further-requires
-further-requires c = (rooms_kept _ _ _ _ _ _ c.requires.0 c.loop-d.invariant.1, omega arith)
-
-pub loop-d-preserved : goal.loop-d-preserved
-loop-d-preserved c = (omega arith, omega arith, c.further.ensures c.args.paths.now c.loop-d.invariant.2)
-
 pub take_tree-requires : goal.take_tree-requires
 take_tree-requires c = (rooms_kept _ _ _ _ _ _ c.requires.0 c.loop-d.invariant.1, omega arith, omega arith, omega (arith, start_low 6 0))
-
-pub put_digest-requires : goal.put_digest-requires
-put_digest-requires c = (c.take_tree.ensures.0, omega arith)
 
 pub returns : goal.returns
 unfolding root_of

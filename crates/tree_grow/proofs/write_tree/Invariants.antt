@@ -1,5 +1,5 @@
 -- `tree_grow::write_tree` meets its contract. Assumes nothing.
-use Prim.Native.Nat.{◌≤◌, ◌-◌}
+use Prim.Native.Nat.{◌≤◌}
 use mathlib.Core.Path.{◌≡◌}
 use lib.ListN.{length}
 use Rattle.tree.specs.Levels.{paths_to}
@@ -8,6 +8,3 @@ use Rattle.tree_grow.proofs.write_tree.Given as goal
 
 abbrev pub invariant-loop-d : goal.invariant-loop-d
 invariant-loop-d l = (l.d ≤ 6) × (length l.paths ≡ length l.initial.paths) × (l.paths ≡ paths_to l.n (leaf_at l.s l.len l.area) l.d 0 l.initial.paths)
-
-abbrev pub decreases-loop-d : goal.decreases-loop-d
-decreases-loop-d l = 6 - l.d

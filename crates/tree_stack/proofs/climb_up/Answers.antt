@@ -12,9 +12,6 @@ use Rattle.tree_stack.specs.Stack.{top}
 use Rattle.tree_stack.proofs.Stacks.{top_end}
 use Rattle.tree_stack.proofs.climb_up.Goals as goal
 
-pub top_of-at-requires : goal.top_of-at-requires
-top_of-at-requires c = omega (arith, c.requires.0, c.requires.1)
-
 pub loop-d-init : goal.loop-d-init
 loop-d-init c = (omega arith, c.top_of-at.ensures.0, refl, λ f h. ap (λ (q : ℕ). part q 32 c.args.stack.now) c.top_of-at.ensures.0 ∙ h ∙ sym (climb_none c.args.n c.args.i sha256 (node_of c.args.path.now) f))
 
@@ -23,13 +20,6 @@ lift_beside-at-requires c =
     let a = c.args in let p = c.requires in let d = c.loop-d.d in let top : d + 1 + (5 - d) ≡ 6 = omega arith in
     let grown : depth (around a.n (d + 1) a.i) a.i ≤ depth (around a.n 6 a.i) a.i = rw top at (depth_grows a.n a.i p.1 (d + 1) (5 - d)) in let whole : depth (around a.n 6 a.i) a.i ≡ depth (tree_of a.n) a.i = ap (λ (t : Tree). depth t a.i) (around_all a.n a.i p.0 p.1) in
     (p.0, p.1, c.loop-d-test.true, omega (arith, c.nodes.ensures.1), omega (arith, p.2, c.loop-d.invariant.2), c.loop-d.invariant.1, λ h. omega (arith, depth_more a.n d a.i h, c.nodes.ensures.0, p.3))
-
-pub loop-d-preserved : goal.loop-d-preserved
-loop-d-preserved c =
-    let l = c.loop-d in (omega arith, c.lift_beside-at.ensures.0, c.lift_beside-at.auto.stack ∙ l.invariant.2, λ f h. c.lift_beside-at.ensures.1 f (l.invariant.3 f h) c.nodes.ensures.0)
-
-pub shape_of-stack : goal.shape_of-stack
-shape_of-stack c = c.loop-d.invariant.2
 
 pub returns : goal.returns
 returns c =

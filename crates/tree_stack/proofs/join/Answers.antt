@@ -5,16 +5,12 @@ use mathlib.Core.Path.{◌≡◌, refl}
 use native.Mathlib.Omega.{arith}
 use lib.ListN.{length-take, length-drop}
 use Rattle.sha256.specs.Tables.{H0}
-use Rattle.tree_stack.proofs.Stacks.{eight_words, padded, node_put}
+use Rattle.tree_stack.proofs.Stacks.{padded, node_put}
 use Rattle.tree_stack.proofs.join.Goals as goal
 
 pub absorb-requires : goal.absorb-requires
 absorb-requires c =
     let a = c.args in let p = c.requires in let k : a.at + 64 - a.at ≡ 64 = omega arith in (simp (length-take, length-drop) (omega arith), refl, omega (arith, padded 1 (a.at + 64 - a.at) a.at 64 a.stack.now k (omega arith)))
-
-pub put_digest-requires : goal.put_digest-requires
-unfolding H0
-put_digest-requires c = (eight_words c.begun-h.result c.absorb.new.h _ _ c.begun-h.ensures c.absorb.ensures, omega arith)
 
 pub returns : goal.returns
 unfolding H0

@@ -1,24 +1,15 @@
 -- `tree_stack::put_leaf` meets its contract.
 -- Assumes nothing.
-use Prim.Native.Nat.{◌+◌, ◌-◌}
-use mathlib.Core.Path.{◌≡◌}
 use native.Mathlib.Omega.{arith}
-use lib.ListN.{length-take, length-drop}
 use Rattle.sha256.specs.Tables.{H0}
-use Rattle.tree_stack.proofs.Stacks.{eight_words, padded, leaf_put}
+use Rattle.tree_stack.proofs.Stacks.{padded_leaf, leaf_put}
 use Rattle.tree_stack.proofs.put_leaf.Goals as goal
 
 pub absorb-requires : goal.absorb-requires
-absorb-requires c =
-    let a = c.args in let p = c.requires in let k : a.from + a.len - a.from ≡ a.len = omega arith in (simp (length-take, length-drop) (omega arith), omega arith, omega (arith, padded 0 (a.from + a.len - a.from) a.from a.len a.buffer.now k (omega arith)))
-
-pub put_digest-requires : goal.put_digest-requires
-unfolding H0
-put_digest-requires c = (eight_words c.begun-h.result c.absorb.new.h _ _ c.begun-h.ensures c.absorb.ensures, omega arith)
+absorb-requires c = (omega arith, omega arith, omega (arith, padded_leaf 0 c.args.leaf.now))
 
 pub returns : goal.returns
 unfolding H0
 returns c =
-    let begun = c.begun-h in let absorb = c.absorb in let a = c.args in
-    let p = c.requires in let k : a.from + a.len - a.from ≡ a.len = omega arith in
-    leaf_put (a.from + a.len - a.from) a.from a.len a.at a.buffer.now a.stack.now begun.result absorb.new.h c.put_digest.new.out k (omega arith) begun.ensures absorb.ensures c.put_digest.ensures
+    let a = c.args in
+    leaf_put a.at a.leaf.now a.stack.now c.begun-h.result c.absorb.new.h c.put_digest.new.out c.begun-h.ensures c.absorb.ensures c.put_digest.ensures

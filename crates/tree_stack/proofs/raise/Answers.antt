@@ -12,34 +12,17 @@ use Rattle.tree_stack.proofs.raise.Goals as goal
 pub loop-d-init : goal.loop-d-init
 loop-d-init c = (omega arith, c.top_of-at.ensures.0, rising_first _ _ _)
 
-pub stays-requires : goal.stays-requires
-stays-requires c = omega (arith, c.levels_of.ensures)
-
-pub shape_of-stack-then-stays : goal.shape_of-stack-then-stays
-shape_of-stack-then-stays c = c.loop-d.invariant.2.size
-
 pub returns-then-stays : goal.returns-then-stays
 returns-then-stays c =
     let a = c.args in
     λ fs hx s. let a = a in let l = c.loop-d in let m = middle l.d a.i in let both : ltb a.i m && ltb m a.n ≡ true = sym
     c.stays.ensures ∙ c.if-stays.true in rising_stays a.n a.i l.d a.stack.now l.stack (omega arith) (omega arith) (omega arith)
-    (omega (arith, c.levels_of.ensures)) l.invariant.2 (ltb-true a.i m (and_l (ltb a.i m) (ltb m a.n) both))
+    (omega (arith, c.levels_of-d-end.ensures)) l.invariant.2 (ltb-true a.i m (and_l (ltb a.i m) (ltb m a.n) both))
     (ltb-true m a.n (and_r (ltb a.i m) (ltb m a.n) both)) fs hx s
-
-pub lift-at-requires : goal.lift-at-requires
-lift-at-requires c =
-    let levels_of = c.levels_of in let l = c.loop-d in
-    (omega arith, omega (arith, levels_of.ensures), omega (arith, l.invariant.2.size), l.invariant.1)
-
-pub overflow_add-d : goal.overflow_add-d
-overflow_add-d c = omega (arith, c.levels_of.ensures)
-
-pub loop-d-smaller : goal.loop-d-smaller
-loop-d-smaller c = omega (arith, c.levels_of.ensures)
 
 pub loop-d-preserved : goal.loop-d-preserved
 loop-d-preserved c =
-    let levels_of = c.levels_of in let stays = c.stays in
+    let levels_of = c.levels_of-d-end in let stays = c.stays in
     let a = c.args in let l = c.loop-d in
     let lift = c.lift-at in (
       omega (arith, levels_of.ensures),
@@ -49,11 +32,8 @@ loop-d-preserved c =
           lift.ensures.1,
     )
 
-pub shape_of-stack : goal.shape_of-stack
-shape_of-stack c = c.loop-d.invariant.2.size
-
 pub returns : goal.returns
 returns c =
     let a = c.args in
-    λ fs hx s. let a = a in let l = c.loop-d in let e : l.d ≡ 6 = omega (arith, c.levels_of.ensures) in rising_done a.n a.i a.stack.now l.stack
+    λ fs hx s. let a = a in let l = c.loop-d in let e : l.d ≡ 6 = omega (arith, c.levels_of-d-end.ensures) in rising_done a.n a.i a.stack.now l.stack
     (omega arith) (omega arith) (subst (λ (d : ℕ). Rising a.n a.i d a.stack.now l.stack) e l.invariant.2) fs hx s

@@ -8,12 +8,6 @@ use lib.Count.{ones, ones-le}
 use Rattle.tree_stack.specs.Stack.{top}
 use Rattle.tree_stack.proofs.top_of.Goals as goal
 
-pub overflow_cast-result : goal.overflow_cast-result
-overflow_cast-result c = omega (arith, ones-le 6 c.args.i (omega arith))
-
-pub overflow_mul-result : goal.overflow_mul-result
-overflow_mul-result c = omega (arith, ones-le 6 c.args.i (omega arith))
-
 pub returns : goal.returns
 unfolding top
 returns c =

@@ -5,12 +5,14 @@ use Rattle.field.specs.Field.{mul}
 use Rattle.field.proofs.Laws.{zero_mul_l, zero_mul_r}
 use Rattle.field.proofs.Powers.{power_add}
 use Rattle.field.proofs.Element.product_by_logs.Goals as goal
+use Rattle.field.proofs.Element.product_by_logs.Goals.{then-self-eq0-via-then-self-eq0, then-self-eq0-via-else-self-eq0+then-other-eq0}
 
 pub returns-then-self-eq0 : goal.returns-then-self-eq0
-returns-then-self-eq0 c = sym (rw c.if-self-eq0.true (zero_mul_l _))
-
-pub returns-then-other-eq0 : goal.returns-then-other-eq0
-returns-then-other-eq0 c = sym (rw c.if-other-eq0.true (zero_mul_r _))
+returns-then-self-eq0 c =
+    elim c.then-self-eq0.branch [
+      | then-self-eq0-via-then-self-eq0 w ↦ sym (rw w.if-self-eq0.true (zero_mul_l _))
+      | then-self-eq0-via-else-self-eq0+then-other-eq0 w ↦ sym (rw w.if-other-eq0.true (zero_mul_r _))
+    ]
 
 pub returns : goal.returns
 returns c =
