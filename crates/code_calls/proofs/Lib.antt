@@ -1,4 +1,5 @@
 -- What a call that is not refused knows.
+pub mod Numbers
 pub mod Firsts
 pub mod Taken
 pub mod Promises

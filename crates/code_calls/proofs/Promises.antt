@@ -15,7 +15,7 @@ use Rattle.code_calls.specs.Hashing.{hash_of}
 use Rattle.code_calls.specs.Encoding.{encoded, encode_of}
 use Rattle.code_calls.specs.Rebuilding.{common_length, rebuild_refusal, Rebuilds}
 use Rattle.code_calls.specs.Reading.{read_out, read_of}
-use Rattle.octets.specs.declared.Sized.{Sized}
+use Rattle.refusal.specs.declared.Sized.{Sized}
 use Rattle.code_calls.specs.declared.Digest.{Digest}
 use Rattle.code_calls.proofs.Taken.{rebuild_taken}
 

@@ -13,8 +13,8 @@ use lib.Dec.{leb}
 use lib.ListN.{length}
 use Rattle.octets.specs.Bytes.{pick, part, put, place_each}
 use Rattle.octets.specs.Sets.{has}
-use Rattle.octets.specs.Answers.{sized}
-use Rattle.octets.specs.declared.Sized.{Sized}
+use Rattle.refusal.specs.Answers.{sized}
+use Rattle.refusal.specs.declared.Sized.{Sized}
 use Rattle.octets.proofs.Members.{some_none}
 use Rattle.octets.proofs.Places.{length_places}
 use Rattle.octets.proofs.Puts.{part_put}

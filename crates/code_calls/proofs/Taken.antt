@@ -29,8 +29,11 @@ use Rattle.code_encode.specs.Message.{fragment_for}
 use Rattle.code_encode.proofs.Sizes.{rows_most}
 use Rattle.code.proofs.Reading.{readable_facts, readable_four}
 use Rattle.code_through.specs.Rebuild.{Agrees, Rebuilt}
-use Rattle.octets.specs.Answers.{sized}
-use Rattle.octets.specs.declared.Sized.{Sized}
+use Rattle.refusal.specs.Answers.{sized}
+use Rattle.refusal.specs.declared.Sized.{Sized}
+use Rattle.refusal.specs.declared.Refusal.{Refusal}
+use Rattle.refusal.specs.Numbers.{refused}
+use Rattle.std.specs.Prelude.{Result, Ok, Err, IfOk}
 use Rattle.code_calls.specs.Encoding.{encode_refusal, encoded, encode_by, encode_of}
 use Rattle.code_calls.specs.Reading.{read_refusal, read_out, read_by, read_of}
 use Rattle.code_calls.specs.Rebuilding.{length_at, first_of, common_length, some_outside, too_short, by_lengths, rebuild_refusal, Rebuilds}
@@ -50,6 +53,11 @@ read_taken b given message e =
     let (e2, f2) = none_applies (ltb (length message) b.longest) 1 _ f1 in
     let (e3, f3) = none_applies (not (readable (k_of b) b.longest given)) 11 _ f2 in
     record { limited = not_none (limits b) e1; room = ltb-false _ _ e2; reads = not_none (readable (k_of b) b.longest given) e3 }
+
+-- a table outside its limits
+pub read_outside : (b : Table) (given message : List ℕ) → limits b ≡ false → 1 ≡ read_refusal b given message
+unfolding read_refusal pick
+read_outside b given message h = rw h
 
 module _ (b : Table) (given message : List ℕ) where
   -- what the code does once it knows the refusal
@@ -108,6 +116,11 @@ module _ (b : Table) (message area root paths : List ℕ) where
   unfolding encode_refusal pick
   encode_takes t =
       rw (t.limited, le-ltb _ _ t.area_room, le-ltb _ _ t.root_room, le-ltb _ _ t.paths_room, le-ltb _ _ t.fits)
+
+  -- a table outside its limits
+  pub encode_outside : limits b ≡ false → 1 ≡ encode_refusal b message area root paths
+  unfolding encode_refusal pick
+  encode_outside h = rw h
 
   -- an answer 0 is no refusal
   pub encode_accepted : (encode_of b message area root paths).answer.number ≡ 0 → encode_refusal b message area root paths ≡ 0
@@ -229,6 +242,11 @@ module _ (b : Table) (marked : ℕ) (lengths area out : List ℕ) where
         enough = ltb-false _ _ e5;
       }
 
+  -- a table outside its limits
+  pub rebuild_outside : limits b ≡ false → 1 ≡ rebuild_refusal b marked lengths area out
+  unfolding rebuild_refusal pick
+  rebuild_outside h = rw h
+
   pub rebuild_refused : (q : ℕ) → (q ≡ 0 → ⊥) → q ≡ rebuild_refusal b marked lengths area out → Rebuilds b marked lengths area out (sized q 0) out
   rebuild_refused q some e = record {
     refused = λ p f. (ap (λ (q : ℕ). sized q 0) (e ∙ f), refl);
@@ -282,6 +300,13 @@ module _ (b : Table) (marked : ℕ) (lengths area out : List ℕ) where
           let q : ◌≡◌ {A = ℕ} 0 1 = cc in omega arith);
       none = λ f n. (refl, (r.none (λ d a. n d (subst (λ (n : ℕ). Agrees b.n (k_of b) (s_max b) n marked area d) e a))).1);
     }
+
+  -- the length that the code finds is that of the lowest marked fragment
+  pub ok_length : (r : Result ℕ Refusal) → refused r ≡ rebuild_refusal b marked lengths area out
+      → IfOk r (λ len. (first_of (has marked) 0 b.n < b.n → len ≡ common_length b.n marked lengths) × (b.n ≤ first_of (has marked) 0 b.n → len ≡ 0))
+      → IfOk r (λ len. len ≡ common_length b.n marked lengths)
+  ok_length (Ok len) e h = h.0 (first_below (sym e))
+  ok_length (Err r) e h = h
 
   -- the length of the lowest marked fragment, as the code has it
   pub rebuild_length : (first len : ℕ) → first ≡ first_of (has marked) 0 b.n → len ≡ length_at lengths first → len ≡ common_length b.n marked lengths

@@ -6,8 +6,8 @@ use Rattle.table.specs.declared.Table.{Table}
 use Rattle.tree.specs.Tree.{root_of, path_of, flat}
 use Rattle.code.specs.Block.{rows}
 use Rattle.code_encode.specs.Message.{fragment_for}
-use Rattle.octets.specs.Answers.{sized}
-use Rattle.octets.specs.declared.Sized.{Sized}
+use Rattle.refusal.specs.Answers.{sized}
+use Rattle.refusal.specs.declared.Sized.{Sized}
 
 -- the first refusal that applies, or 0
 unfoldable pub encode_refusal : Table → List ℕ → List ℕ → List ℕ → List ℕ → ℕ

@@ -4,8 +4,8 @@ use Rattle.octets.specs.Bytes.{pick, put}
 use Rattle.table.specs.Table.{limits, k_of}
 use Rattle.table.specs.declared.Table.{Table}
 use Rattle.code.specs.Block.{readable, block_message}
-use Rattle.octets.specs.Answers.{sized}
-use Rattle.octets.specs.declared.Sized.{Sized}
+use Rattle.refusal.specs.Answers.{sized}
+use Rattle.refusal.specs.declared.Sized.{Sized}
 
 -- the first refusal that applies, or 0
 unfoldable pub read_refusal : Table → List ℕ → List ℕ → ℕ

@@ -6,8 +6,8 @@ use Rattle.octets.specs.Sets.{has, some}
 use Rattle.table.specs.Table.{limits, k_of, s_max}
 use Rattle.table.specs.declared.Table.{Table}
 use Rattle.code_through.specs.Rebuild.{Agrees}
-use Rattle.octets.specs.Answers.{sized}
-use Rattle.octets.specs.declared.Sized.{Sized}
+use Rattle.refusal.specs.Answers.{sized}
+use Rattle.refusal.specs.declared.Sized.{Sized}
 
 -- the length given for board i + 1
 abbrev pub length_at : List ℕ → ℕ → ℕ

@@ -1,17 +1,20 @@
-// The calls of the ground: hash, encode, rebuild, read a block. Each refuses by its number or works, whatever it is given.
+// The calls of the ground: hash, encode, rebuild, read a block. Each gives why it refuses or works, whatever it is given.
 #![tactic(auto)]
 
-ghost use Rattle.std.specs.Prelude.{◌≡◌, true, false, not, ◌&&◌, ℕ, suc, ◌+◌, ◌*◌, ◌≤◌, ◌<◌, leb, length};
+ghost use Rattle.std.specs.Prelude.{◌≡◌, true, false, not, ◌&&◌, ℕ, suc, ◌+◌, ◌*◌, ◌≤◌, ◌<◌, leb, length, IfOk, MatchOption};
 ghost use Rattle.octets.specs.Sets.{has};
-ghost use Rattle.code_calls.specs.Hashing.{hash_of};
+ghost use Rattle.refusal.specs.Numbers.{refused};
+ghost use Rattle.refusal.specs.Answers.{sized_of};
+ghost use Rattle.code_calls.specs.Hashing.{hash_of, digest_of, Digests};
 ghost use Rattle.code_calls.specs.Encoding.{encode_refusal, encoded, encode_of};
-ghost use Rattle.code_calls.specs.Rebuilding.{length_at, first_of, some_outside, by_lengths, too_short, rebuild_refusal, Rebuilds};
+ghost use Rattle.code_calls.specs.Rebuilding.{length_at, first_of, common_length, some_outside, by_lengths, too_short, rebuild_refusal, Rebuilds};
 ghost use Rattle.code_calls.specs.Reading.{read_refusal, read_out, read_of};
 
-use octets::Sized;
-use table::Table;
+use refusal::Refusal;
+use table::{InLimits, Table};
 
-// A hash: the refusal's number, or 0; and the 32 bytes.
+// A hash, as C is given it: the refusal's number, or 0; and the 32 bytes.
+// Stays: C is given a number and the bytes.
 #[repr(C)]
 #[derive(Clone, Copy)]
 pub struct Digest {
@@ -19,68 +22,76 @@ pub struct Digest {
     pub bytes: [u8; 32],
 }
 
+impl From<Result<[u8; 32], Refusal>> for Digest {
+    ghost from_gives = { Digests };
+
+    fn from(r: Result<[u8; 32], Refusal>) -> Digest {
+        match r {
+            Ok(bytes) => Digest { number: 0, bytes },
+            Err(e) => Digest {
+                number: e.number(),
+                bytes: [0u8; 32],
+            },
+        }
+    }
+}
+
 // SHA-256 of at most 65,536 bytes.
-pub fn hash(string: &[u8]) -> Digest
-    ensures { result ≡ hash_of string.now }
+pub fn hash(string: &[u8]) -> Result<[u8; 32], Refusal>
+    ensures { digest_of result ≡ hash_of string.now }
 {
     if 65536 < string.len() {
-        return Digest {
-            number: 15,
-            bytes: [0u8; 32],
-        };
+        return Err(Refusal::Hash);
     }
-    let bytes = sha256_strings::joined(b"", string);
-    Digest {
-        number: 0,
-        bytes: bytes,
-    }
+    Ok(sha256_strings::joined(b"", string))
 }
 
-// Why encoding is refused, or 0.
-fn encode_refusal(b: Table, message: &[u8], area: &[u8], root: &[u8], paths: &[u8]) -> u32
-    ensures { result ≡ encode_refusal b message.now area.now root.now paths.now }
+// Whether encoding may begin with a table within its limits, or why not.
+fn may_encode(
+    b: InLimits,
+    message: &[u8],
+    area: &[u8],
+    root: &[u8],
+    paths: &[u8],
+) -> Result<(), Refusal>
+    ensures { refused result ≡ encode_refusal b.table message.now area.now root.now paths.now }
 {
-    if !table::in_limits(b) {
-        return 1;
-    }
-    let n = b.n;
-    if area.len() < n * table::fragment_most(b) {
-        return 2;
+    let n = b.table.n;
+    if area.len() < n * b.fragment_most() {
+        return Err(Refusal::Buffer);
     }
     if root.len() < 32 {
-        return 2;
+        return Err(Refusal::Buffer);
     }
     if paths.len() < n * 192 {
-        return 2;
+        return Err(Refusal::Buffer);
     }
-    if b.longest < message.len() {
-        return 13;
+    if b.table.longest < message.len() {
+        return Err(Refusal::Message);
     }
-    0
+    Ok(())
 }
 
-// All fragments of a message, the root of their tree and the path of each.
-pub fn encode(b: Table, message: &[u8], area: &mut [u8], root: &mut [u8], paths: &mut [u8]) -> Sized
-    ensures { encoded result area.new root.new paths.new
+// All fragments of a message, the root of their tree and the path of each; the length of a fragment.
+pub fn encode(
+    b: Table,
+    message: &[u8],
+    area: &mut [u8],
+    root: &mut [u8],
+    paths: &mut [u8],
+) -> Result<u32, Refusal>
+    ensures { encoded (sized_of result) area.new root.new paths.new
         ≡ encode_of b message.now area.old root.old paths.old }
 {
-    let q = encode_refusal(b, message, area, root, paths);
-    if q != 0 {
-        return Sized {
-            number: q,
-            length: 0,
-        };
-    }
-    let n = b.n;
-    let k = table::fragments_needed(b);
-    let most = table::fragment_most(b);
+    let b = InLimits::try_from(b)?;
+    may_encode(b, message, area, root, paths)?;
+    let n = b.table.n;
+    let k = b.fragments_needed();
+    let most = b.fragment_most();
     let len = code::row_count(message.len(), k);
     code_encode::put_fragments(message, n, k, most, area);
     tree_grow::write_tree(area, most, len, n, root, paths);
-    Sized {
-        number: 0,
-        length: len as u32,
-    }
+    Ok(len as u32)
 }
 
 // The length given for board i + 1.
@@ -100,10 +111,7 @@ fn outside_at(marked: u64, lengths: &[u8], lo: usize, hi: usize, i: usize) -> bo
         return false;
     }
     let len = length_at(lengths, i);
-    if len < lo {
-        return true;
-    }
-    !(len <= hi)
+    len < lo || hi < len
 }
 
 // Whether some marked length is not from lo to hi.
@@ -111,29 +119,25 @@ fn some_outside(n: usize, lo: usize, hi: usize, marked: u64, lengths: &[u8]) -> 
     requires { (n ≤ 64) × (2 * n ≤ length lengths.now) }
     ensures { result ≡ some_outside n lo hi marked lengths.now }
 {
-    let mut i = 0;
-    while i < n {
+    for i in 0..n {
         if outside_at(marked, lengths, lo, hi, i) {
             return true;
         }
-        i += 1;
     }
     false
 }
 
-// The lowest marked board, counted from 0; n if there is none.
-fn first_marked(n: usize, marked: u64) -> usize
+// The lowest marked board, counted from 0.
+fn first_marked(n: usize, marked: u64) -> Option<usize>
     requires { n ≤ 64 }
-    ensures { (result ≡ first_of (has marked) 0 n) × (result ≤ n) }
+    ensures { MatchOption result (n ≤ first_of (has marked) 0 n) (λ i. (i ≡ first_of (has marked) 0 n) × (i < n)) }
 {
-    let mut i = 0;
-    while i < n {
+    for i in 0..n {
         if table::has_board(marked, i) {
-            return i;
+            return Some(i);
         }
-        i += 1;
     }
-    n
+    None
 }
 
 // Whether one of the lent buffers is too short.
@@ -150,107 +154,98 @@ fn short(n: usize, k: usize, most: usize, lengths: usize, area: usize, block: us
     block < k * most
 }
 
-// The refusals that look at the marked lengths: 7, 10, 11, or 0.
-fn by_lengths(n: usize, k: usize, most: usize, marked: u64, lengths: &[u8]) -> u32
+// The length that the marked fragments have in common, 0 where none is marked; or the refusals that look at the marked lengths: 7, 10, 11.
+fn by_lengths(
+    n: usize,
+    k: usize,
+    most: usize,
+    marked: u64,
+    lengths: &[u8],
+) -> Result<usize, Refusal>
     requires { (n ≤ 64) × (2 * n ≤ length lengths.now) }
-    ensures { result ≡ by_lengths n k most marked lengths.now }
+    ensures number { refused result ≡ by_lengths n k most marked lengths.now }
+    ensures length { IfOk result (λ len. (first_of (has marked) 0 n < n → len ≡ common_length n marked lengths.now)
+        × (n ≤ first_of (has marked) 0 n → len ≡ 0)) }
 {
     if some_outside(n, 1, most, marked, lengths) {
-        return 7;
+        return Err(Refusal::Length);
     }
     if table::size(marked) < k {
-        return 10;
+        return Err(Refusal::TooFew);
     }
-    let first = first_marked(n, marked);
-    if n <= first {
-        return 0;
-    }
+    let Some(first) = first_marked(n, marked) else {
+        return Ok(0);
+    };
     let len = length_at(lengths, first);
     if some_outside(n, len, len, marked, lengths) {
-        return 11;
+        return Err(Refusal::Disagree);
     }
-    0
+    Ok(len)
 }
 
-// Why rebuilding is refused before a block is looked for, or 0.
-fn rebuild_refusal(b: Table, marked: u64, lengths: &[u8], area: &[u8], block: &[u8]) -> u32
-    ensures { result ≡ rebuild_refusal b marked lengths.now area.now block.now }
+// The length of the marked fragments, or why rebuilding is refused before a block is looked for, with a table within its limits.
+fn may_rebuild(
+    b: InLimits,
+    marked: u64,
+    lengths: &[u8],
+    area: &[u8],
+    block: &[u8],
+) -> Result<usize, Refusal>
+    ensures number { refused result ≡ rebuild_refusal b.table marked lengths.now area.now block.now }
+    ensures length { IfOk result (λ len. len ≡ common_length b.table.n marked lengths.now) }
 {
-    if !table::in_limits(b) {
-        return 1;
-    }
-    let n = b.n;
-    let k = table::fragments_needed(b);
-    let most = table::fragment_most(b);
+    let n = b.table.n;
+    let k = b.fragments_needed();
+    let most = b.fragment_most();
     if short(n, k, most, lengths.len(), area.len(), block.len()) {
-        return 2;
+        return Err(Refusal::Buffer);
     }
     if !table::below(marked, n) {
-        return 4;
+        return Err(Refusal::Board);
     }
     by_lengths(n, k, most, marked, lengths)
 }
 
-// The block whose fragments are all those marked.
-pub fn rebuild(b: Table, marked: u64, lengths: &[u8], area: &[u8], block: &mut [u8]) -> Sized
-    ensures { Rebuilds b marked lengths.now area.now block.old result block.new }
+// The block whose fragments are all those marked, and its length.
+pub fn rebuild(
+    b: Table,
+    marked: u64,
+    lengths: &[u8],
+    area: &[u8],
+    block: &mut [u8],
+) -> Result<u32, Refusal>
+    ensures { Rebuilds b marked lengths.now area.now block.old (sized_of result) block.new }
 {
-    let q = rebuild_refusal(b, marked, lengths, area, block);
-    if q != 0 {
-        return Sized {
-            number: q,
-            length: 0,
-        };
+    let b = InLimits::try_from(b)?;
+    let len = may_rebuild(b, marked, lengths, area, block)?;
+    let k = b.fragments_needed();
+    let most = b.fragment_most();
+    if code_rebuild::rebuild(area, most, b.table.n, k, marked, len, block) {
+        return Ok((len * k) as u32);
     }
-    let n = b.n;
-    let k = table::fragments_needed(b);
-    let most = table::fragment_most(b);
-    let first = first_marked(n, marked);
-    let len = length_at(lengths, first);
-    if code_rebuild::rebuild(area, most, n, k, marked, len, block) {
-        return Sized {
-            number: 0,
-            length: (len * k) as u32,
-        };
-    }
-    Sized {
-        number: 11,
-        length: 0,
-    }
+    Err(Refusal::Disagree)
 }
 
-// Why reading a block is refused, or 0.
-fn read_refusal(b: Table, block: &[u8], message: &[u8]) -> u32
-    ensures { result ≡ read_refusal b block.now message.now }
+// Whether a block may be read with a table within its limits, or why not.
+fn may_read(b: InLimits, block: &[u8], message: &[u8]) -> Result<(), Refusal>
+    ensures { refused result ≡ read_refusal b.table block.now message.now }
 {
-    if !table::in_limits(b) {
-        return 1;
+    if message.len() < b.table.longest {
+        return Err(Refusal::Buffer);
     }
-    if message.len() < b.longest {
-        return 2;
+    if !code::can_read(block, b.fragments_needed(), b.table.longest) {
+        return Err(Refusal::Block);
     }
-    let k = table::fragments_needed(b);
-    if !code::can_read(block, k, b.longest) {
-        return 12;
-    }
-    0
+    Ok(())
 }
 
-// The message that stands in a block.
-pub fn read_block(b: Table, block: &[u8], message: &mut [u8]) -> Sized
-    ensures { read_out result message.new ≡ read_of b block.now message.old }
+// The message that stands in a block, and its length.
+pub fn read_block(b: Table, block: &[u8], message: &mut [u8]) -> Result<u32, Refusal>
+    ensures { read_out (sized_of result) message.new ≡ read_of b block.now message.old }
 {
-    let q = read_refusal(b, block, message);
-    if q != 0 {
-        return Sized {
-            number: q,
-            length: 0,
-        };
-    }
+    let b = InLimits::try_from(b)?;
+    may_read(b, block, message)?;
     let m = octets::four_at(block, 0);
-    octets::copy_part(message, 0, block, 4, m);
-    Sized {
-        number: 0,
-        length: m as u32,
-    }
+    octets::copy_at(message, 0, &block[4..4 + m]);
+    Ok(m as u32)
 }

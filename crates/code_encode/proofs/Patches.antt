@@ -9,9 +9,8 @@ use native.Mathlib.Omega.{arith}
 use native.Mathlib.Nat as N
 use lib.ListN.{length, get_or, set}
 use lib.Seq.{ext_get_or, get_or-set_same, get_or-set_other}
-use Rattle.octets.specs.Bytes.{part, put, place_each}
-use Rattle.octets.proofs.Laws.{length_put, length_part, get_d_put_in, get_d_put_out}
-use Rattle.octets.proofs.Parts.{get_d_part}
+use Rattle.octets.specs.Bytes.{put, place_each}
+use Rattle.octets.proofs.Laws.{length_put, get_d_put_in, get_d_put_out}
 use Rattle.octets.proofs.Places.{places_are}
 use Rattle.octets.proofs.Walk.{lt_or_le}
 use Rattle.code.specs.Code.{fragment_byte, fragment_of}
@@ -20,9 +19,6 @@ use Rattle.code.proofs.Blocks.{enough, length_fragment, fragment_at}
 use Rattle.code_encode.specs.Patch.{Filled, Patch}
 
 -- ---- a run of bytes
-
-pub filled_none : (from : ℕ) (f : ℕ → ℕ) (old : List ℕ) → Filled from 0 f old old
-filled_none from f old = record { each = λ d h. absurd (omega arith); before = λ p h. refl; after = λ p h. refl }
 
 -- one byte more is written
 pub filled_next : (from n v : ℕ) (f : ℕ → ℕ) (old area : List ℕ) → from + n < length area → Filled from n f old area → v ≡ f n
@@ -43,18 +39,14 @@ filled_same from n f old e = record { each = e; before = λ p h. refl; after = �
 pub filled_as : (from n : ℕ) (f g : ℕ → ℕ) (old new : List ℕ) → Filled from n f old new → ((d : ℕ) → d < n → f d ≡ g d) → Filled from n g old new
 filled_as from n f g old new w e = record { each = λ d h. w.each d h ∙ e d h; before = w.before; after = w.after }
 
--- the first n bytes of a column put in
-pub filled_copy : (from n : ℕ) (column old : List ℕ) → n ≤ length column → from + n ≤ length old
-    → Filled from n (λ d. get_or column d 0) old (put from (part 0 n column) old)
-filled_copy from n column old h g = record {
-  each = λ d b. get_d_put_in (part 0 n column) old from d (omega (arith, size)) (omega (arith, size)) ∙ get_d_part 0 n d column b
-      ∙ ap (λ (p : ℕ). get_or column p 0) (N.zero-add d);
-  before = λ p b. get_d_put_out (part 0 n column) old from p (inl b);
-  after = λ p b. get_d_put_out (part 0 n column) old from p (inr (omega (arith, size)));
+-- a column put in
+pub filled_copy : (from : ℕ) (column old : List ℕ) → from + length column ≤ length old
+    → Filled from (length column) (λ d. get_or column d 0) old (put from column old)
+filled_copy from column old g = record {
+  each = λ d b. get_d_put_in column old from d b g;
+  before = λ p b. get_d_put_out column old from p (inl b);
+  after = λ p b. get_d_put_out column old from p (inr b);
 }
-  where
-    size : length (part 0 n column) ≡ n
-    size = length_part 0 n column (omega arith)
 
 -- ---- room after room
 
@@ -81,6 +73,11 @@ module _ (at s n : ℕ) (f : ℕ → ℕ → ℕ) (old area new : List ℕ) (i :
           ⊎_elim (λ l. t.before p l)
           (λ l. ⊎_elim (λ b. absurd (h (p - (at + i * s)) (omega arith) (omega arith))) (λ b. t.after p b) (lt_or_le p (at + i * s + n)))
           (lt_or_le p (at + i * s))
+
+-- as many rooms, and as many bytes of each, counted in another way
+pub sized : (at count' count s n' n : ℕ) (f : ℕ → ℕ → ℕ) (old new : List ℕ) → count' ≡ count → n' ≡ n → Patch at count' s n' f old new
+    → Patch at count s n f old new
+sized at count' count s n' n f old new e d w = record { each = λ i b h g. w.each i b (omega arith) (omega arith); kept = λ p h. w.kept p (λ i b g l. h i b (omega arith) (omega arith)) }
 
 -- ---- one writing after the other
 

@@ -20,6 +20,10 @@ pub record Patch (at count s n : ℕ) (f : ℕ → ℕ → ℕ) (old new : List 
   pub each : (i d : ℕ) → i < count → d < n → get_or new (at + i * s + d) 0 ≡ f i d
   pub kept : (p : ℕ) → ((i d : ℕ) → i < count → d < n → p ≢ at + i * s + d) → get_or new p 0 ≡ get_or old p 0
 
+-- rooms of s bytes, so many from a place on, have place for n bytes each and lie, as far as these, in a list of the size
+abbrev pub HasRooms : ℕ → ℕ → ℕ → ℕ → ℕ → Type 0
+HasRooms at count s n size = (n ≤ s) × (at + count * s + n ≤ size + s)
+
 -- byte from + i * k of a message's block, which is 0 past its end
 abbrev pub in_block : List ℕ → ℕ → ℕ → ℕ → ℕ
 in_block msg k from i = get_or (header (length msg) ++ msg) (from + i * k) 0

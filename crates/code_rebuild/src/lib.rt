@@ -11,17 +11,14 @@ ghost use Rattle.code_through.specs.Sums.{Master, Scales, Sums, Remade, Scattere
 
 use code_sum::{combine, place};
 use code_through::{advance, expand, members, scales, weights_at};
-use octets::clear_at;
 
-// The bytes of src, n of them, into column m from row c on.
-fn scatter(src: &[u8], n: usize, out: &mut [u8], k: usize, m: usize, c: usize)
-    requires { (n ≤ length src.now) × (m < k) × (k ≤ 64) × (c + n ≤ 16388) × ((c + n) * k ≤ length out.old) }
-    ensures { Scattered src.now k m c n out.old out.new }
+// The bytes of src into column m from row c on.
+fn scatter(src: &[u8], out: &mut [u8], k: usize, m: usize, c: usize)
+    requires { (m < k) × (k ≤ 64) × (c + length src.now ≤ 16388) × ((c + length src.now) * k ≤ length out.old) }
+    ensures { Scattered src.now k m c (length src.now) out.old out.new }
 {
-    let mut i = 0;
-    while i < n {
+    for i in 0..src.len() {
         out[(c + i) * k + m] = src[i];
-        i += 1;
     }
 }
 
@@ -42,10 +39,11 @@ fn write_column(
 {
     let k = points.len();
     let mut c = 0;
+    // Stays: a step is as long as the room, and the last one as what is left, which no range with a step says.
     while c < count {
-        let n = octets::least(count - c, sum.len());
+        let n = (count - c).min(sum.len());
         combine(area, s, points, ws, c, n, sum);
-        scatter(sum, n, out, k, m, c);
+        scatter(&sum[..n], out, k, m, c);
         c += n;
     }
 }
@@ -68,25 +66,22 @@ fn write_columns(
         × (0 < length sum.old) }
     ensures { Wrote area.now s points.now count out.old out.new }
 {
-    let mut i = points.len();
-    while 0 < i {
-        advance(points, ds, m[i], ws);
-        i -= 1;
+    for i in (0..points.len()).rev() {
+        advance(points, ds, m[i + 1], ws);
         write_column(area, s, points, ws, count, i, out, sum);
     }
 }
 
-// Whether n bytes of a are those of b from a place on, by all that they differ in: a loop without a branch.
-fn same_bytes(a: &[u8], b: &[u8], from: usize, n: usize) -> bool
-    requires { (n ≤ length a.now) × (from + n ≤ length b.now) }
-    ensures yes { result ≡ true → (i : ℕ) → i < n → get_or a.now i 0 ≡ get_or b.now (from + i) 0 }
-    ensures no { ((i : ℕ) → i < n → get_or a.now i 0 ≡ get_or b.now (from + i) 0) → result ≡ true }
+// Whether the bytes of a and b are the same, by all that they differ in: a loop without a branch, of which the compiler makes vector code.
+// Stays: all that differs is gathered, so that the loop has no branch and becomes vector code.
+fn same_bytes(a: &[u8], b: &[u8]) -> bool
+    requires { length a.now ≡ length b.now }
+    ensures yes { result ≡ true → (i : ℕ) → i < length a.now → get_or a.now i 0 ≡ get_or b.now i 0 }
+    ensures no { ((i : ℕ) → i < length a.now → get_or a.now i 0 ≡ get_or b.now i 0) → result ≡ true }
 {
     let mut differ: u8 = 0;
-    let mut i = 0;
-    while i < n {
-        differ = differ | (a[i] ^ b[from + i]);
-        i += 1;
+    for i in 0..a.len() {
+        differ |= a[i] ^ b[i];
     }
     differ == 0
 }
@@ -107,14 +102,15 @@ fn column_agrees(
     ensures no { result ≡ false → ((c : ℕ) → c < count → Sums area.now s points.now ws.now z c) → ⊥ }
 {
     let mut c = 0;
+    // Stays: in steps as write_column's.
     while c < count {
-        let n = octets::least(count - c, sum.len());
+        let n = (count - c).min(sum.len());
         combine(area, s, points, ws, c, n, sum);
-        if same_bytes(sum, area, place(z, s, c), n) {
-            c += n;
-        } else {
+        let from = place(z, s, c);
+        if !same_bytes(&sum[..n], &area[from..from + n]) {
             return false;
         }
+        c += n;
     }
     true
 }
@@ -137,13 +133,10 @@ fn others_agree(
     ensures yes { result ≡ true → (c : ℕ) → c < count → Some area.now s c marked.now (length points.now) }
     ensures no { result ≡ false → ((c : ℕ) → c < count → Some area.now s c marked.now (length points.now)) → ⊥ }
 {
-    let mut i = points.len();
-    while i < marked.len() {
+    for i in points.len()..marked.len() {
         let z = marked[i];
         weights_at(points, ds, z, ws);
-        if column_agrees(area, s, points, ws, z, count, sum) {
-            i += 1;
-        } else {
+        if !column_agrees(area, s, points, ws, z, count, sum) {
             return false;
         }
     }
@@ -169,11 +162,10 @@ fn rebuild_in(
         × (length ds.old ≡ length points.now) × (length ws.old ≡ length points.now) × (0 < length sum.old) }
     ensures { Remade area.now s points.now marked.now count out.old out.new result }
 {
-    let k = points.len();
     expand(points, m);
     scales(points, m, ws, ds);
     if others_agree(area, s, points, marked, m, ds, count, ws, sum) {
-        clear_at(ws, 0, k);
+        ws.fill(0);
         write_columns(area, s, points, m, ds, count, out, ws, sum);
         return true;
     }
@@ -193,7 +185,6 @@ fn rebuild_listed(
         × (count * k ≤ length out.old) }
     ensures { Remade area.now s (take k marked.now) marked.now count out.old out.new result }
 {
-    let top = k + 1;
     let mut m = [0u8; 65];
     let mut ds = [0u8; 64];
     let mut ws = [0u8; 64];
@@ -205,7 +196,7 @@ fn rebuild_listed(
         marked,
         count,
         out,
-        &mut m[..top],
+        &mut m[..k + 1],
         &mut ds[..k],
         &mut ws[..k],
         &mut sum,
@@ -214,6 +205,7 @@ fn rebuild_listed(
 
 // The one block of len rows of k bytes whose fragments are all those marked, into out: true; or false where there is none, and out is left
 // as it was. Fragment i + 1 of the n stands in the area from i * s on.
+// Stays: a bool beside the buffer, as Rebuilt says it; area, room and points one by one, as code_sum's combine takes them.
 pub fn rebuild(
     area: &[u8],
     s: usize,

@@ -1,6 +1,6 @@
 -- Sums by the bits of the weights: from the highest bit down, the sum is doubled, and the fragments whose weights have the bit are added.
 -- Assumes nothing.
-use mathlib.Core.Path.{◌≡◌, refl, sym, ap, ap₂, ◌∙◌, subst}
+use mathlib.Core.Path.{◌≡◌, refl, sym, ap, ap₂, ◌∙◌}
 use mathlib.Core.Logic.{◌≢◌}
 use mathlib.Core.List.{List}
 use Prim.Native.Nat.{ℕ, zero, suc, ◌+◌, ◌-◌, ◌*◌, ◌/◌, ◌%◌, ◌^◌, ◌<◌, ◌≤◌}
@@ -8,11 +8,9 @@ use native.Mathlib.Nat as N
 use native.Mathlib.Numerals.{add-one}
 use native.Mathlib.Omega.{arith}
 use lib.ListN.{length, get_or}
-use lib.Pow.{pow_pos}
-use Rattle.octets.specs.Bytes.{part, put}
+use Rattle.octets.specs.Bytes.{put}
 use Rattle.octets.proofs.Below.{bit_cases}
-use Rattle.octets.proofs.Laws.{length_part, get_d_put_in}
-use Rattle.octets.proofs.Parts.{get_d_part}
+use Rattle.octets.proofs.Laws.{get_d_put_in}
 use Rattle.field.specs.Field.{add, double, times, mul}
 use Rattle.field.proofs.Laws as L
 use Rattle.field.proofs.Bits.{product_times}
@@ -108,18 +106,11 @@ module _ (area : List ℕ) (s : ℕ) (xs ws : List ℕ) (c n : ℕ) where
 
 -- ---- bytes
 
--- w bytes copied to the front
-fronted : (w : ℕ) (sum old new : List ℕ) → w ≤ length sum → w ≤ length old → new ≡ put 0 (part 0 w sum) old → (i : ℕ) → i < w → get_or new i 0 ≡ get_or sum i 0
-fronted w sum old new h g e i b =
-    let l : length (part 0 w sum) ≡ w = length_part 0 w sum (omega arith) in
-    ap₂ (λ (t : List ℕ) (p : ℕ). get_or t p 0) e (sym (N.zero-add i)) ∙ get_d_put_in (part 0 w sum) old 0 i (omega arith) (omega arith)
-    ∙ get_d_part 0 w i sum b ∙ ap (λ (p : ℕ). get_or sum p 0) (N.zero-add i)
-
--- w sums that are copied to the front of a buffer, whatever w is: the two widths that a block is put out by are two functions, since the compiler
--- keeps the sums in registers only where the width is a number
-pub sums_fronted : (area : List ℕ) (s : ℕ) (xs ws : List ℕ) (c w : ℕ) (sum old new : List ℕ) → Summed area s xs ws c w sum → w ≤ length sum → w ≤ length old
-    → new ≡ put 0 (part 0 w sum) old → Summed area s xs ws c w new
-sums_fronted area s xs ws c w sum old new h l g e i b = fronted w sum old new l g e i b ∙ h i b
+-- w sums that are copied to the front of a buffer
+pub sums_fronted : (area : List ℕ) (s : ℕ) (xs ws : List ℕ) (c w : ℕ) (sum old new : List ℕ) → Summed area s xs ws c w sum → length sum ≡ w → w ≤ length old
+    → new ≡ put 0 sum old → Summed area s xs ws c w new
+sums_fronted area s xs ws c w sum old new h l g e i b =
+    ap₂ (λ (t : List ℕ) (p : ℕ). get_or t p 0) e (sym (N.zero-add i)) ∙ get_d_put_in sum old 0 i (omega arith) (omega arith) ∙ h i b
 
 -- what summing up by the bits of the weights asks for, where no weight is above top, which takes so many bits
 pub bits_enough : (ws : List ℕ) (top bits : ℕ) → ((j : ℕ) → j < length ws → get_or ws j 0 ≤ top) → (bits ≤ 8) × (top < 2 ^ bits) → (bits ≤ 8) × Low bits ws
@@ -130,9 +121,3 @@ pub moved : (area : List ℕ) (s : ℕ) (xs ws : List ℕ) (c at i : ℕ) → at
 moved area s xs ws c at i h =
     let e : at + (c - at + i) ≡ c + i = omega arith in
     ap (λ (d : ℕ). weighed area s xs ws d (length xs)) e
-
--- no bit from b on
-pub below_power : (a b : ℕ) → a / 2 ^ b ≡ 0 → a < 2 ^ b
-below_power a b e =
-    let h : a / 2 ^ b < 1 = omega arith in
-    subst (λ (p : ℕ). a < p) (N.one-mul (2 ^ b)) ((N.div-lt_iff_lt-mul (pow_pos b)).0 h)

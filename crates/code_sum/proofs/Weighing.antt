@@ -1,12 +1,13 @@
 -- Laws of weighed sums, and of the rooms that their fragments stand in.
 -- Assumes nothing.
-use mathlib.Core.Path.{◌≡◌, refl, ap}
+use mathlib.Core.Path.{◌≡◌, refl, ap, ◌∙◌}
 use mathlib.Core.List.{List}
 use Prim.Native.Nat.{ℕ, suc, ◌+◌, ◌-◌, ◌*◌, ◌<◌, ◌≤◌}
 use native.Mathlib.Nat as N
 use native.Mathlib.Omega.{arith}
 use native.Mathlib.Numerals.{add-one}
-use lib.ListN.{get_or}
+use lib.ListN.{length, get_or, take, drop, length-drop}
+use lib.Seq.{get_or-take, get_or-drop, length-take-le}
 use Rattle.field.specs.Field.{add, mul}
 use Rattle.code_sum.specs.Sums.{cell, total, weighed}
 
@@ -30,3 +31,10 @@ room x s c n size h g l = go (x - 1) (omega arith)
 pub place_cell : (area : List ℕ) (s c i x : ℕ) → get_or area ((x - 1) * s + c + i) 0 ≡ cell area s (c + i) x
 unfolding cell
 place_cell area s c i x = ap (λ (p : ℕ). get_or area p 0) (N.add_assoc ((x - 1) * s) c i)
+
+-- n bytes of the area from a place on, as a slice: how many they are, and byte i of them
+pub slice_length : (area : List ℕ) (from n : ℕ) → from + n ≤ length area → length (take (from + n - from) (drop from area)) ≡ n
+slice_length area from n h = length-take-le (from + n - from) (drop from area) (omega (arith, length-drop {A = ℕ} from area)) ∙ omega arith
+
+pub slice_byte : (area : List ℕ) (from n i : ℕ) → i < n → get_or (take (from + n - from) (drop from area)) i 0 ≡ get_or area (from + i) 0
+slice_byte area from n i h = get_or-take (from + n - from) (drop from area) i 0 (omega arith) ∙ get_or-drop from area i 0

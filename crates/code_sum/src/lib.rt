@@ -7,17 +7,15 @@ ghost use Rattle.code_sum.specs.Sums.{InArea, weighed, Added};
 ghost use Rattle.code_sum.specs.Blocks.{Weighable, Summed, Low, picked};
 
 use field::Element;
-use octets::{clear_at, copy_part};
+use octets::clear_at;
 
-// n bytes of sum have w times those of src from a place on added.
-fn accumulate(sum: &mut [u8], src: &[u8], from: usize, n: usize, w: u8)
-    requires { (n ≤ length sum.old) × (from + n ≤ length src.now) }
-    ensures { Added w src.now from n sum.old sum.new }
+// The first bytes of sum have w times those of src added. (A loop that the compiler makes vector code of.)
+fn accumulate(sum: &mut [u8], src: &[u8], w: u8)
+    requires { length src.now ≤ length sum.old }
+    ensures { Added w src.now 0 (length src.now) sum.old sum.new }
 {
-    let mut c = 0;
-    while c < n {
-        sum[c] = Element(sum[c]).fold(Element(w), Element(src[from + c])).0;
-        c += 1;
+    for c in 0..src.len() {
+        sum[c] = Element(sum[c]).fold(Element(w), Element(src[c])).0;
     }
 }
 
@@ -26,119 +24,73 @@ pub fn place(x: u8, s: usize, c: usize) -> usize
     requires { (0 < x) × (x ≤ 64) × (s ≤ 16388) × (c ≤ s) }
     ensures { result ≡ (x - 1) * s + c }
 {
-    (x as usize - 1) * s + c
+    (usize::from(x) - 1) * s + c
 }
 
 // How many bits a byte takes. (Were it always 8, the compiler would lay out eight rounds in a line and keep the sum in memory.)
 fn width(top: u8) -> u8
     ensures { (result ≤ 8) × (top < 2 ^ result) }
 {
-    let mut b: u8 = 8;
-    while 0 < b {
-        if 0 < top >> (b - 1) {
-            return b;
+    for b in (0..8).rev() {
+        if 0 < top >> b {
+            return b + 1;
         }
-        b -= 1;
     }
-    b
+    0
 }
 
-// n bytes of src from a place on are added.
-fn add_part(sum: &mut [u8], src: &[u8], from: usize, n: usize)
-    requires { (n ≤ length sum.old) × (from + n ≤ length src.now) }
-    ensures { (i : ℕ) → i < n → get_or sum.new i 0 ≡ add (get_or sum.old i 0) (get_or src.now (from + i) 0) }
+// All bytes of src are added to the first of sum.
+fn add_part(sum: &mut [u8], src: &[u8])
+    requires { length src.now ≤ length sum.old }
+    ensures { (i : ℕ) → i < length src.now → get_or sum.new i 0 ≡ add (get_or sum.old i 0) (get_or src.now i 0) }
 {
-    let mut i = 0;
-    while i < n {
-        sum[i] = Element(sum[i]).add(Element(src[from + i])).0;
-        i += 1;
+    for i in 0..src.len() {
+        sum[i] = Element(sum[i]).add(Element(src[i])).0;
     }
 }
 
-// Bytes c, c + 1, .. , n of them, of the fragments whose weights have bit b are added.
-fn add_picked(
-    area: &[u8],
-    s: usize,
-    points: &[u8],
-    ws: &[u8],
-    b: u8,
-    c: usize,
-    n: usize,
-    sum: &mut [u8],
-)
-    requires { Weighable (length area.now) s points.now ws.now c n × (b < 8) × (n ≤ length sum.old) }
-    ensures { (i : ℕ) → i < n → get_or sum.new i 0 ≡ add (get_or sum.old i 0)
+// Bytes c, c + 1, .. of the fragments whose weights have bit b are added, as many as there are sums.
+fn add_picked(area: &[u8], s: usize, points: &[u8], ws: &[u8], b: u8, c: usize, sum: &mut [u8])
+    requires { Weighable (length area.now) s points.now ws.now c (length sum.old) × (b < 8) }
+    ensures { (i : ℕ) → i < length sum.old → get_or sum.new i 0 ≡ add (get_or sum.old i 0)
         (picked area.now s points.now ws.now b (c + i) (length points.now)) }
 {
-    let mut j = 0;
-    while j < points.len() {
+    for j in 0..points.len() {
         if (ws[j] >> b) % 2 == 1 {
-            add_part(sum, area, place(points[j], s, c), n);
+            let from = place(points[j], s, c);
+            add_part(sum, &area[from..from + sum.len()]);
         }
-        j += 1;
     }
 }
 
-// From zeros, bytes c, c + 1, .. of the fragments at the points, n of them, each times its weight, added up: by the bits of the weights from the
-// highest down, so that the sum is doubled, and not each product. (It is called with a number for n, and its loops become straight lines.)
-fn sum_up(
+// From zeros, bytes c, c + 1, .. of the fragments at the points, each times its weight, added up: by the bits of the weights from the highest
+// down, so that the sum is doubled, and not each product. (It is called with an array for sum, and its loops become straight lines.)
+fn sum_up(area: &[u8], s: usize, points: &[u8], ws: &[u8], c: usize, bits: u8, sum: &mut [u8])
+    requires { Weighable (length area.now) s points.now ws.now c (length sum.old) × (bits ≤ 8) × Low bits ws.now
+        × ((i : ℕ) → i < length sum.old → get_or sum.old i 0 ≡ 0) }
+    ensures { Summed area.now s points.now ws.now c (length sum.old) sum.new }
+{
+    for b in (0..bits).rev() {
+        field::double_all(sum);
+        add_picked(area, s, points, ws, b, c, sum);
+    }
+}
+
+// N such bytes into out. (The sum stays in registers; out might be a part of the area, for all that the compiler knows.)
+fn put_sum<const N: usize>(
     area: &[u8],
     s: usize,
     points: &[u8],
     ws: &[u8],
     c: usize,
-    n: usize,
-    bits: u8,
-    sum: &mut [u8],
+    out: &mut [u8],
 )
-    requires { Weighable (length area.now) s points.now ws.now c n × (bits ≤ 8) × Low bits ws.now × (n ≤ length sum.old)
-        × ((i : ℕ) → i < n → get_or sum.old i 0 ≡ 0) }
-    ensures { Summed area.now s points.now ws.now c n sum.new }
+    requires { Weighable (length area.now) s points.now ws.now c N × (N ≤ length out.old) }
+    ensures { Summed area.now s points.now ws.now c N out.new }
 {
-    let mut b = bits;
-    while 0 < b {
-        b -= 1;
-        field::double_all(sum, n);
-        add_picked(area, s, points, ws, b, c, n, sum);
-    }
-}
-
-// 64 such bytes into out. (The sum stays in registers; out might be a part of the area, for all that the compiler knows.)
-fn put_block(area: &[u8], s: usize, points: &[u8], ws: &[u8], c: usize, out: &mut [u8])
-    requires { Weighable (length area.now) s points.now ws.now c 64 × (64 ≤ length out.old) }
-    ensures { Summed area.now s points.now ws.now c 64 out.new }
-{
-    let mut sum = [0u8; 64];
-    sum_up(
-        area,
-        s,
-        points,
-        ws,
-        c,
-        64,
-        width(octets::largest(ws, ws.len())),
-        &mut sum,
-    );
-    copy_part(out, 0, &sum, 0, 64);
-}
-
-// 112 such bytes into out.
-fn put_wide(area: &[u8], s: usize, points: &[u8], ws: &[u8], c: usize, out: &mut [u8])
-    requires { Weighable (length area.now) s points.now ws.now c 112 × (112 ≤ length out.old) }
-    ensures { Summed area.now s points.now ws.now c 112 out.new }
-{
-    let mut sum = [0u8; 112];
-    sum_up(
-        area,
-        s,
-        points,
-        ws,
-        c,
-        112,
-        width(octets::largest(ws, ws.len())),
-        &mut sum,
-    );
-    copy_part(out, 0, &sum, 0, 112);
+    let mut sum = [0u8; N];
+    sum_up(area, s, points, ws, c, width(octets::largest(ws)), &mut sum);
+    octets::copy_at(out, 0, &sum);
 }
 
 // The n bytes from d on stand at the front.
@@ -149,10 +101,8 @@ fn shift(sum: &mut [u8], d: usize, n: usize)
     if d == 0 {
         return;
     }
-    let mut i = 0;
-    while i < n {
+    for i in 0..n {
         sum[i] = sum[d + i];
-        i += 1;
     }
 }
 
@@ -178,34 +128,37 @@ fn begin(w: usize, c: usize, n: usize, s: usize) -> usize
 }
 
 // Bytes c, c + 1, .. of the fragments at the points, n of them, each times its weight, added up: one fragment after the other.
+// (Apart, so that the blocks keep their registers; it is jumped to, with the same parameters.)
+#[inline(never)]
 fn combine_each(area: &[u8], s: usize, points: &[u8], ws: &[u8], c: usize, n: usize, sum: &mut [u8])
     requires { Weighable (length area.now) s points.now ws.now c n × (n ≤ length sum.old) }
     ensures { Summed area.now s points.now ws.now c n sum.new }
 {
     clear_at(sum, 0, n);
-    let mut j = 0;
-    while j < points.len() {
+    for j in 0..points.len() {
         let from = place(points[j], s, c);
-        accumulate(sum, area, from, n, ws[j]);
-        j += 1;
+        accumulate(sum, &area[from..from + n], ws[j]);
     }
 }
 
 // The same, by a block of 112 or 64 bytes where the rooms are as long: it may begin before byte c, and ends in its room. (`&*` lets the compiler
-// hand the slices over in registers, so that no caller lays them out on its stack.)
+// hand the slices over in registers, so that no caller lays them out on its stack; and it is apart, so that its block lies in no frame of a caller.)
+// Stays: area, room, points and weights one by one: a struct of slices is handed over in memory, in the frame of each caller, and those of the
+// delivering step have 1,560 bytes. sum has room for a whole block, so that n is not its length.
+#[inline(never)]
 pub fn combine(area: &[u8], s: usize, points: &[u8], ws: &[u8], c: usize, n: usize, sum: &mut [u8])
     requires { InArea (length area.now) s points.now × (s ≤ 16388) × (c + n ≤ s) × (length ws.now ≡ length points.now) × (n ≤ length sum.old) }
     ensures { (i : ℕ) → i < n → get_or sum.new i 0 ≡ weighed area.now s points.now ws.now (c + i) (length points.now) }
 {
     if takes(112, n, s, sum.len()) {
         let at = begin(112, c, n, s);
-        put_wide(&*area, s, &*points, &*ws, at, sum);
+        put_sum::<112>(&*area, s, &*points, &*ws, at, sum);
         shift(sum, c - at, n);
         return;
     }
     if takes(64, n, s, sum.len()) {
         let at = begin(64, c, n, s);
-        put_block(&*area, s, &*points, &*ws, at, sum);
+        put_sum::<64>(&*area, s, &*points, &*ws, at, sum);
         shift(sum, c - at, n);
         return;
     }

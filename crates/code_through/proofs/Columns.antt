@@ -7,8 +7,8 @@ use Prim.Native.Nat.{ℕ, suc, ◌+◌, ◌-◌, ◌*◌, ◌/◌, ◌%◌, ◌<
 use native.Mathlib.Nat as N
 use native.Mathlib.Omega.{arith}
 use lib.Arith.{digits_div, digits_mod}
-use lib.ListN.{length, get_or, set, drop, drop_of_length-le}
-use lib.Seq.{get_or-set_same, get_or-set_other, drop-cons}
+use lib.ListN.{length, get_or, set, take, drop, drop_of_length-le}
+use lib.Seq.{get_or-set_same, get_or-set_other, get_or-take, length-take-le, drop-cons}
 use borrow.Author.Count.{below_more}
 use Rattle.octets.proofs.Walk.{lt_or_le}
 use Rattle.field.specs.Field.{add, mul}
@@ -66,6 +66,17 @@ scatter_next src old out k m c i hm room w = record {
 
     under : (p : ℕ) → (c + (i + 1)) * k ≤ p → (c + i) * k ≤ p
     under p h = omega (arith, more)
+
+-- the first n bytes of a list are written
+pub scattered_front : {k m c : ℕ} {old new : List ℕ} (n : ℕ) (sum : List ℕ) → n ≤ length sum → Scattered (take n sum) k m c (length (take n sum)) old new
+    → Scattered sum k m c n old new
+scattered_front n sum h t =
+    let e = length-take-le n sum h in record {
+      each = λ i b. t.each i (omega arith) ∙ get_or-take n sum i 0 b;
+      before = t.before;
+      other = t.other;
+      after = λ p b. t.after p (rw e b);
+    }
 
 -- n rows more are written
 pub column_next : (area : List ℕ) (s : ℕ) (xs ws : List ℕ) (k m c n : ℕ) (sum old out new : List ℕ) → Column area s xs ws k m c old out

@@ -16,10 +16,8 @@ fn attach(x: u8, row: &mut [u8], j: usize)
     requires { j < length row.old }
     ensures { Attached x j row.old row.new }
 {
-    let mut i = j;
-    while i + 1 < row.len() {
+    for i in j..row.len() - 1 {
         row[i] = Element(row[i]).fold(Element(x), Element(row[i + 1])).0;
-        i += 1;
     }
 }
 
@@ -29,9 +27,7 @@ pub fn master(points: &[u8], row: &mut [u8])
         × (get_or row.old (length points.now) 0 ≡ 1) }
     ensures { Master points.now row.new }
 {
-    let mut j = points.len();
-    while 0 < j {
-        j -= 1;
+    for j in (0..points.len()).rev() {
         attach(points[j], row, j);
     }
 }
@@ -43,12 +39,10 @@ fn deepen(points: &[u8], top: u8, low: &mut [u8], ds: &mut [u8])
         (get_or low.new j 0 ≡ add top (mul (get_or points.now j 0) (get_or low.old j 0)))
         × (get_or ds.new j 0 ≡ add (get_or low.new j 0) (mul (get_or points.now j 0) (get_or ds.old j 0))) }
 {
-    let mut j = 0;
-    while j < points.len() {
+    for j in 0..points.len() {
         let v = Element(top).fold(Element(points[j]), Element(low[j]));
         low[j] = v.0;
         ds[j] = v.fold(Element(points[j]), Element(ds[j])).0;
-        j += 1;
     }
 }
 
@@ -58,12 +52,10 @@ fn slopes(points: &[u8], m: &[u8], low: &mut [u8], ds: &mut [u8])
     ensures { (j : ℕ) → j < length points.now
         → get_or ds.new j 0 ≡ value (quot (get_or points.now j 0) (drop 1 m.now)) (get_or points.now j 0) }
 {
-    let mut i = points.len();
-    clear_at(low, 0, i);
-    clear_at(ds, 0, i);
-    while 0 < i {
-        deepen(points, m[i], low, ds);
-        i -= 1;
+    low.fill(0);
+    ds.fill(0);
+    for i in (0..points.len()).rev() {
+        deepen(points, m[i + 1], low, ds);
     }
 }
 
@@ -71,10 +63,8 @@ fn slopes(points: &[u8], m: &[u8], low: &mut [u8], ds: &mut [u8])
 fn invert_all(xs: &mut [u8])
     ensures { (j : ℕ) → j < length xs.old → 0 < get_or xs.old j 0 → mul (get_or xs.old j 0) (get_or xs.new j 0) ≡ 1 }
 {
-    let mut j = 0;
-    while j < xs.len() {
-        xs[j] = Element(xs[j]).inverse().0;
-        j += 1;
+    for x in xs.iter_mut() {
+        *x = Element(*x).inverse().0;
     }
 }
 
@@ -93,13 +83,11 @@ pub fn advance(points: &[u8], ds: &[u8], top: u8, ws: &mut [u8])
     ensures { (j : ℕ) → j < length points.now → get_or ws.new j 0
         ≡ add (mul (get_or ds.now j 0) top) (mul (get_or points.now j 0) (get_or ws.old j 0)) }
 {
-    let mut j = 0;
-    while j < points.len() {
+    for j in 0..points.len() {
         ws[j] = Element(ds[j])
             .product(Element(top))
             .fold(Element(points[j]), Element(ws[j]))
             .0;
-        j += 1;
     }
 }
 
@@ -129,9 +117,7 @@ pub fn value_at(row: &[u8], z: u8) -> u8
     ensures { result ≡ value row.now z }
 {
     let mut v = Element::ZERO;
-    let mut j = row.len();
-    while 0 < j {
-        j -= 1;
+    for j in (0..row.len()).rev() {
         v = Element(row[j]).fold(Element(z), v);
     }
     v.0
@@ -142,9 +128,7 @@ fn product_at(points: &[u8], z: u8) -> u8
     ensures { result ≡ differences points.now z }
 {
     let mut v = Element::ONE;
-    let mut j = points.len();
-    while 0 < j {
-        j -= 1;
+    for j in (0..points.len()).rev() {
         v = Element(z).add(Element(points[j])).product(v);
     }
     v.0
@@ -155,10 +139,8 @@ fn subtract(points: &[u8], z: u8, out: &mut [u8])
     requires { length out.old ≡ length points.now }
     ensures { (j : ℕ) → j < length points.now → get_or out.new j 0 ≡ add z (get_or points.now j 0) }
 {
-    let mut j = 0;
-    while j < points.len() {
+    for j in 0..points.len() {
         out[j] = Element(z).add(Element(points[j])).0;
-        j += 1;
     }
 }
 
@@ -166,7 +148,7 @@ fn subtract(points: &[u8], z: u8, out: &mut [u8])
 fn own(x: u8, z: u8) -> Element
     ensures { (x ≡ z → result.0 ≡ 1) × ((x ≡ z → ⊥) → result.0 ≡ 0) }
 {
-    if x == z { Element::ONE } else { Element::ZERO }
+    Element(u8::from(x == z))
 }
 
 // From the inverses of all z - x the weights: each times its scale and the product of all differences, `at`.
@@ -174,13 +156,11 @@ fn weigh(points: &[u8], ds: &[u8], z: u8, at: u8, ws: &mut [u8])
     requires { (length ds.now ≡ length points.now) × (length ws.old ≡ length points.now) }
     ensures { (j : ℕ) → j < length points.now → Weight (get_or points.now j 0) z (get_or ds.now j 0) at (get_or ws.old j 0) (get_or ws.new j 0) }
 {
-    let mut j = 0;
-    while j < points.len() {
+    for j in 0..points.len() {
         ws[j] = Element(ds[j])
             .product(Element(at).product(Element(ws[j])))
             .add(own(points[j], z))
             .0;
-        j += 1;
     }
 }
 
@@ -196,20 +176,19 @@ pub fn weights_at(points: &[u8], ds: &[u8], z: u8, ws: &mut [u8])
 }
 
 // The boards of a set, of n in all, in ascending order; how many there are.
+// Stays: the list stands in its caller's frame (there is no heap), and its length comes back beside it.
 pub fn members(set: u64, n: usize, out: &mut [u8]) -> usize
     requires { (n ≤ 64) × (n ≤ length out.old) }
     ensures { (result ≤ n) × (take result out.new ≡ marks 1 n set) }
 {
     let mut rest = set;
     let mut m = 0;
-    let mut i = 0;
-    while i < n {
+    for i in 0..n {
         if rest % 2 == 1 {
             out[m] = (i + 1) as u8;
             m += 1;
         }
-        rest = rest / 2;
-        i += 1;
+        rest /= 2;
     }
     m
 }

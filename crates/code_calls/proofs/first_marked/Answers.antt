@@ -1,12 +1,7 @@
-use mathlib.Core.Path.{◌≡◌, sym, ◌∙◌}
+use mathlib.Core.Path.{sym, ◌∙◌}
 use native.Mathlib.Omega.{arith}
-use Rattle.octets.proofs.SetLaws.{whole}
-use Rattle.code_calls.specs.Rebuilding.{first_of}
 use Rattle.code_calls.proofs.Firsts.{first_on, first_off, first_end}
 use Rattle.code_calls.proofs.first_marked.Goals as goal
-
-pub loop-i-init : goal.loop-i-init
-loop-i-init c = (omega arith, sym (whole (first_of _) _ _ (omega arith)))
 
 pub returns-then-has_board : goal.returns-then-has_board
 returns-then-has_board c = (sym (c.loop-i.invariant.1 ∙ first_on _ _ _ c.loop-i-test.true (sym c.has_board.ensures ∙ c.if-has_board.true)), omega arith)
@@ -16,4 +11,4 @@ loop-i-preserved c = (omega arith, c.loop-i.invariant.1 ∙ first_off _ _ _ c.lo
 
 pub returns : goal.returns
 returns c =
-    let e : c.loop-i.i ≡ c.args.n = omega arith in (sym (c.loop-i.invariant.1 ∙ first_end _ _ _ c.loop-i-test.false ∙ e), omega arith)
+    let e = c.loop-i.invariant.1 ∙ first_end _ _ _ c.loop-i-test.false in omega arith

@@ -6,6 +6,3 @@ use Rattle.code_calls.proofs.first_marked.Given as goal
 
 abbrev pub invariant-loop-i : goal.invariant-loop-i
 invariant-loop-i l = (l.i ≤ l.n) × (first_of (has l.marked) 0 l.n ≡ first_of (has l.marked) l.i (l.n - l.i))
-
-abbrev pub decreases-loop-i : goal.decreases-loop-i
-decreases-loop-i l = l.n - l.i

@@ -9,4 +9,4 @@ returns-then-string-gt65536 c = rw (lt-ltb _ _ c.if-string-gt65536.true)
 
 pub returns : goal.returns
 unfolding hash_of pick
-returns c = rw (le-ltb _ _ c.if-string-gt65536.false, c.joined-bytes.ensures)
+returns c = rw (le-ltb _ _ c.if-string-gt65536.false, c.joined.ensures)

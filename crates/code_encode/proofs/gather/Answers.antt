@@ -13,12 +13,12 @@ use Rattle.code_encode.proofs.gather.Goals as goal
 pub overflow_mul-from : goal.overflow_mul-from
 overflow_mul-from c =
     let a = c.args in
-    omega (arith, start_small a.k a.message.now a.c a.n a.m c.requires.1 c.requires.3, c.requires.0, c.requires.2)
+    omega (arith, start_small a.k a.message.now a.c (length a.column.now) a.m c.requires.1 c.requires.3, c.requires.0, c.requires.2)
 
 pub overflow_add-from : goal.overflow_add-from
 overflow_add-from c =
     let a = c.args in
-    omega (arith, start_small a.k a.message.now a.c a.n a.m c.requires.1 c.requires.3, c.requires.0, c.requires.2)
+    omega (arith, start_small a.k a.message.now a.c (length a.column.now) a.m c.requires.1 c.requires.3, c.requires.0, c.requires.2)
 
 pub gather_any-requires : goal.gather_any-requires
 gather_any-requires c =
@@ -26,16 +26,11 @@ gather_any-requires c =
     let p = c.requires in (
       p.0,
       p.2,
-      omega (arith, start_small a.k a.message.now a.c a.n a.m p.1 p.3, p.0, p.2),
+      omega (arith, start_small a.k a.message.now a.c (length a.column.now) a.m p.1 p.3, p.0, p.2),
       omega arith,
-      omega (arith, count_small a.k a.message.now a.c a.n a.m p.1 p.3, p.0, p.2),
-      p.5,
+      omega (arith, count_small a.k a.message.now a.c (length a.column.now) a.m p.1 p.3, p.0, p.2),
+      omega arith,
     )
-
-pub returns-then-k-lt2 : goal.returns-then-k-lt2
-returns-then-k-lt2 c =
-    let a = c.args in
-    λ i h. c.gather_any.ensures.each i (omega arith) h ∙ ap (λ (p : ℕ). get_or (header (length a.message.now) ++ a.message.now) p 0) (place_next a.c a.k a.m i)
 
 pub gather_any-requires-2 : goal.gather_any-requires-2
 gather_any-requires-2 c =
@@ -43,10 +38,10 @@ gather_any-requires-2 c =
     let p = c.requires in (
       p.0,
       p.2,
-      omega (arith, start_small a.k a.message.now a.c a.n a.m p.1 p.3, p.0, p.2),
+      omega (arith, start_small a.k a.message.now a.c (length a.column.now) a.m p.1 p.3, p.0, p.2),
       omega arith,
-      omega (arith, c.least-first.ensures),
-      omega (arith, c.least-first.ensures, p.5),
+      omega (arith, c.min-first.ensures),
+      omega (arith, c.min-first.ensures),
     )
 
 pub gather_inside-requires : goal.gather_inside-requires
@@ -55,11 +50,11 @@ gather_inside-requires c =
     let p = c.requires in
     let pos : 0 < a.k = omega arith in (
       pos,
-      omega (arith, c.least-first.ensures),
-      λ g. omega (arith, c.least-first.ensures),
-      last_inside a.k a.message.now a.c a.n a.m p.1 p.3 p.4,
+      omega (arith, c.min-first.ensures),
+      λ g. omega (arith, c.min-first.ensures),
+      last_inside a.k a.message.now a.c (length a.column.now) a.m p.1 p.3 p.4,
       p.2,
-      omega (arith, p.5, c.gather_any-2.auto.column),
+      omega (arith, c.gather_any-2.auto.column),
     )
 
 pub gather_any-requires-3 : goal.gather_any-requires-3
@@ -68,16 +63,16 @@ gather_any-requires-3 c =
     let p = c.requires in (
       p.0,
       p.2,
-      omega (arith, start_small a.k a.message.now a.c a.n a.m p.1 p.3, p.0, p.2),
+      omega (arith, start_small a.k a.message.now a.c (length a.column.now) a.m p.1 p.3, p.0, p.2),
       omega arith,
-      omega (arith, count_small a.k a.message.now a.c a.n a.m p.1 p.3, p.0, p.2),
-      omega (arith, p.5, c.gather_any-2.auto.column, c.gather_inside.auto.column),
+      omega (arith, count_small a.k a.message.now a.c (length a.column.now) a.m p.1 p.3, p.0, p.2),
+      omega (arith, c.gather_any-2.auto.column, c.gather_inside.auto.column),
     )
 
 pub returns : goal.returns
 returns c =
-    let least = c.least-first in let gather_any2 = c.gather_any-2 in let gather_inside = c.gather_inside in
+    let least = c.min-first in let gather_any2 = c.gather_any-2 in let gather_inside = c.gather_inside in
     let a = c.args in
     λ i h.
-    drawn_all least.result (a.n - 1) a.n (in_block a.message.now a.k (a.c * a.k + a.m)) a.column.now gather_any2.new.column gather_inside.new.column c.gather_any-3.new.column gather_any2.ensures gather_inside.ensures c.gather_any-3.ensures (omega (arith, least.ensures)) i h
+    drawn_all least.result (length a.column.now - 1) (length a.column.now) (in_block a.message.now a.k (a.c * a.k + a.m)) a.column.now gather_any2.new.column gather_inside.new.column c.gather_any-3.new.column gather_any2.ensures gather_inside.ensures c.gather_any-3.ensures (omega (arith, least.ensures)) i h
     ∙ ap (λ (p : ℕ). get_or (header (length a.message.now) ++ a.message.now) p 0) (place_next a.c a.k a.m i)

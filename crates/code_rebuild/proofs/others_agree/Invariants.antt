@@ -1,13 +1,9 @@
 -- `code_rebuild::others_agree` meets its contract. The loop's invariant: the fragments marked before i agree.
 -- Assumes nothing.
-use mathlib.Core.Path.{◌≡◌}
-use Prim.Native.Nat.{◌-◌, ◌≤◌}
+use Prim.Native.Nat.{◌≤◌}
 use lib.ListN.{length}
 use Rattle.code_through.proofs.Others.{Good}
 use Rattle.code_rebuild.proofs.others_agree.Given as goal
 
 abbrev pub invariant-loop-i : goal.invariant-loop-i
-invariant-loop-i l = (length l.points ≤ l.i) × (l.i ≤ length l.marked) × (length l.ws ≡ length l.initial.ws) × (length l.sum ≡ length l.initial.sum) × Good l.area l.s l.points l.m l.ds l.marked l.count l.i
-
-abbrev pub decreases-loop-i : goal.decreases-loop-i
-decreases-loop-i l = length l.marked - l.i
+invariant-loop-i l = (length l.points ≤ l.i) × (l.i ≤ length l.marked) × Good l.area l.s l.points l.m l.ds l.marked l.count l.i

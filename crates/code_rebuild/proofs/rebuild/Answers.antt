@@ -3,9 +3,7 @@
 use mathlib.Core.Path.{sym, subst}
 use mathlib.Core.List.{List}
 use Prim.Native.Nat.{ℕ, ◌≤◌}
-use native.Mathlib.Omega.{arith}
 use lib.ListN.{length, take}
-use lib.Seq.{length-take-le}
 use Rattle.code.specs.Code.{Apart}
 use Rattle.code_sum.specs.Sums.{InArea}
 use Rattle.code_through.specs.Sums.{Remade}
@@ -13,11 +11,6 @@ use Rattle.code_through.proofs.Marks.{apart_marks}
 use Rattle.code_through.proofs.Agree.{boards, enough_marks}
 use Rattle.code_through.proofs.Outcomes.{rebuilt}
 use Rattle.code_rebuild.proofs.rebuild.Goals as goal
-
-pub slice_bounds-rebuild_listed-end : goal.slice_bounds-rebuild_listed-end
-slice_bounds-rebuild_listed-end c =
-    let m = c.members-count in
-    sym (length-take-le m.result m.new.out (omega (arith, m.auto.out, m.ensures.0)))
 
 pub rebuild_listed-requires : goal.rebuild_listed-requires
 rebuild_listed-requires c =

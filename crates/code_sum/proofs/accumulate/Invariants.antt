@@ -2,17 +2,14 @@
 -- Assumes nothing.
 use mathlib.Core.Path.{◌≡◌}
 use mathlib.Core.List.{List}
-use Prim.Native.Nat.{ℕ, ◌+◌, ◌-◌, ◌≤◌}
-use lib.ListN.{get_or}
+use Prim.Native.Nat.{ℕ, ◌≤◌}
+use lib.ListN.{length, get_or}
 use Rattle.field.specs.Field.{add, mul}
 use Rattle.octets.proofs.Walk.{Walked}
 use Rattle.code_sum.proofs.accumulate.Given as goal
 
-abbrev New : ℕ → List ℕ → ℕ → List ℕ → ℕ → ℕ → Type 0
-New w src from old c v = v ≡ add (get_or old c 0) (mul w (get_or src (from + c) 0))
+abbrev New : ℕ → List ℕ → List ℕ → ℕ → ℕ → Type 0
+New w src old c v = v ≡ add (get_or old c 0) (mul w (get_or src c 0))
 
 abbrev pub invariant-loop-c : goal.invariant-loop-c
-invariant-loop-c l = (l.c ≤ l.n) × Walked (New l.w l.src l.from l.initial.sum) l.initial.sum l.c l.sum
-
-abbrev pub decreases-loop-c : goal.decreases-loop-c
-decreases-loop-c l = l.n - l.c
+invariant-loop-c l = (l.c ≤ length l.src) × Walked (New l.w l.src l.initial.sum) l.initial.sum l.c l.sum

@@ -1,4 +1,4 @@
-use mathlib.Core.Path.{◌≡◌, refl, sym, ap, ◌∙◌}
+use mathlib.Core.Path.{◌≡◌, sym, ap, ◌∙◌}
 use Prim.Native.Nat.{ℕ, suc, ◌+◌, ◌-◌}
 use native.Mathlib.Omega.{arith}
 use lib.ListN.{length}
@@ -11,37 +11,24 @@ pub loop-b-init : goal.loop-b-init
 loop-b-init c =
     let a = c.args in
     let p = c.requires in
-    (p.1, refl, λ i h. p.4 i h ∙ sym (upper_none a.area.now a.s a.points.now a.ws.now (a.c + i) (length a.points.now) a.bits (λ j g. p.2 j (omega (arith, p.0.3)))))
-
-pub double_all-requires : goal.double_all-requires
-double_all-requires c = omega (arith, c.loop-b.invariant.1, c.requires.3)
-
-pub add_picked-requires : goal.add_picked-requires
-add_picked-requires c =
-    let p = c.requires in
-    let l = c.loop-b in
-    (p.0, omega arith, omega (arith, c.double_all.auto.s, l.invariant.1, p.3))
+    (p.1, λ i h. p.3 i h ∙ sym (upper_none a.area.now a.s a.points.now a.ws.now (a.c + i) (length a.points.now) a.bits (λ j g. p.2 j (omega (arith, p.0.3)))))
 
 pub loop-b-preserved : goal.loop-b-preserved
 loop-b-preserved c =
     let a = c.args in let l = c.loop-b in let d = c.double_all in
     let g = c.add_picked in let e : suc (l.b - 1) ≡ l.b = omega arith in (
       omega arith,
-      g.auto.sum ∙ d.auto.s ∙ l.invariant.1,
       λ i h.
-          g.ensures i h
-          ∙ ap (λ (t : ℕ). add t (picked a.area.now a.s a.points.now a.ws.now (l.b - 1) (a.c + i) (length a.points.now))) (d.ensures i h ∙ ap double (l.invariant.2 i h ∙ ap (λ (b : ℕ). upper a.area.now a.s a.points.now a.ws.now b (a.c + i) (length a.points.now)) (sym e)))
+          g.ensures i (omega (arith, d.auto.s, l.auto.sum, h))
+          ∙ ap (λ (t : ℕ). add t (picked a.area.now a.s a.points.now a.ws.now (l.b - 1) (a.c + i) (length a.points.now))) (d.ensures i (omega (arith, l.auto.sum, h)) ∙ ap double (l.invariant.1 i h ∙ ap (λ (b : ℕ). upper a.area.now a.s a.points.now a.ws.now b (a.c + i) (length a.points.now)) (sym e)))
           ∙ sym
           (upper_next a.area.now a.s a.points.now a.ws.now (a.c + i) (length a.points.now) (l.b - 1) (λ q. omega (arith, c.type_inv.area q))
           (λ q. omega (arith, c.type_inv.ws q))),
     )
-
-pub shape_of-sum : goal.shape_of-sum
-shape_of-sum c = c.loop-b.invariant.1
 
 pub returns : goal.returns
 returns c =
     let a = c.args in
     let l = c.loop-b in
     let e : l.b ≡ 0 = omega arith in
-    λ i h. l.invariant.2 i h ∙ ap (λ (b : ℕ). upper a.area.now a.s a.points.now a.ws.now b (a.c + i) (length a.points.now)) e ∙ upper_all a.area.now a.s a.points.now a.ws.now (a.c + i) (length a.points.now)
+    λ i h. l.invariant.1 i h ∙ ap (λ (b : ℕ). upper a.area.now a.s a.points.now a.ws.now b (a.c + i) (length a.points.now)) e ∙ upper_all a.area.now a.s a.points.now a.ws.now (a.c + i) (length a.points.now)

@@ -7,7 +7,4 @@ use Rattle.code_sum.proofs.Bitwise.{upper}
 use Rattle.code_sum.proofs.sum_up.Given as goal
 
 abbrev pub invariant-loop-b : goal.invariant-loop-b
-invariant-loop-b l = (l.b ≤ 8) × (length l.sum ≡ length l.initial.sum) × ((i : ℕ) → i < l.n → get_or l.sum i 0 ≡ upper l.area l.s l.points l.ws l.b (l.c + i) (length l.points))
-
-abbrev pub decreases-loop-b : goal.decreases-loop-b
-decreases-loop-b l = l.b
+invariant-loop-b l = (l.b ≤ 8) × ((i : ℕ) → i < length l.initial.sum → get_or l.sum i 0 ≡ upper l.area l.s l.points l.ws l.b (l.c + i) (length l.points))

@@ -5,6 +5,3 @@ use Rattle.code_sum.proofs.width.Given as goal
 
 abbrev pub invariant-loop-b : goal.invariant-loop-b
 invariant-loop-b l = (l.b ≤ 8) × (l.top < 2 ^ l.b)
-
-abbrev pub decreases-loop-b : goal.decreases-loop-b
-decreases-loop-b l = l.b

@@ -2,7 +2,7 @@
 -- Assumes nothing.
 use mathlib.Core.Path.{◌≡◌}
 use mathlib.Core.List.{List}
-use Prim.Native.Nat.{ℕ, ◌-◌, ◌≤◌}
+use Prim.Native.Nat.{ℕ, ◌≤◌}
 use lib.ListN.{length, get_or}
 use Rattle.field.specs.Field.{add, mul}
 use Rattle.octets.proofs.Walk.{Walked}
@@ -13,6 +13,3 @@ New xs ds top old j v = v ≡ add (mul (get_or ds j 0) top) (mul (get_or xs j 0)
 
 abbrev pub invariant-loop-j : goal.invariant-loop-j
 invariant-loop-j l = (l.j ≤ length l.points) × Walked (New l.points l.ds l.top l.initial.ws) l.initial.ws l.j l.ws
-
-abbrev pub decreases-loop-j : goal.decreases-loop-j
-decreases-loop-j l = length l.points - l.j

@@ -13,9 +13,6 @@ use Rattle.code_through.proofs.master.Goals as goal
 pub loop-j-init : goal.loop-j-init
 loop-j-init c = (omega arith, c.requires.2, master_start c.args.points.now c.args.row.now c.requires.0, λ i. omega (arith, c.type_inv.row i))
 
-pub attach-requires : goal.attach-requires
-attach-requires c = omega (arith, c.loop-j.invariant.2.size, c.requires.0)
-
 pub loop-j-preserved : goal.loop-j-preserved
 loop-j-preserved c =
     let a = c.args in
@@ -31,9 +28,6 @@ loop-j-preserved c =
           (subst (λ (x : ℕ). Attached x (l.j - 1) l.row d.new.row) (sym (point a.points.now a.row.now c.requires.0 (l.j - 1) (omega arith))) d.ensures),
       λ i. omega (arith, c.type_inv.row i),
     )
-
-pub shape_of-row : goal.shape_of-row
-shape_of-row c = c.loop-j.invariant.2.size
 
 pub returns : goal.returns
 returns c =

@@ -9,6 +9,3 @@ use Rattle.code_through.proofs.master.Given as goal
 
 abbrev pub invariant-loop-j : goal.invariant-loop-j
 invariant-loop-j l = (l.j ≤ length l.points) × (get_or l.row (length l.points) 0 ≡ 1) × Expanded (l.points ++ 0 ∷ []) l.initial.row l.row l.j × ((i : ℕ) → get_or l.row i 0 < 256)
-
-abbrev pub decreases-loop-j : goal.decreases-loop-j
-decreases-loop-j l = l.j

@@ -1,4 +1,4 @@
-use mathlib.Core.Path.{◌≡◌, refl, sym, ap, ap₂, ◌∙◌}
+use mathlib.Core.Path.{◌≡◌, sym, ap, ap₂, ◌∙◌}
 use mathlib.Core.List.{List, ◌++◌}
 use Prim.Native.Nat.{ℕ, ◌+◌, ◌-◌, ◌/◌}
 use native.Mathlib.Omega.{arith}
@@ -7,11 +7,6 @@ use Rattle.code_through.specs.Through.{marks}
 use Rattle.code_through.proofs.Marks.{take_board, skip_board, last_board}
 use Rattle.code_through.proofs.members.Goals.{then-rest-eq1, else-rest-eq1}
 use Rattle.code_through.proofs.members.Goals as goal
-
-pub loop-i-init : goal.loop-i-init
-loop-i-init c =
-    let z : c.args.n ≡ c.args.n - 0 = omega arith in
-    (omega arith, omega arith, refl, ap (λ (n : ℕ). marks 1 n c.args.set) z)
 
 pub loop-i-preserved : goal.loop-i-preserved
 loop-i-preserved c =
@@ -38,9 +33,6 @@ loop-i-preserved c =
                 ∙ sym (ap₂ (λ (p : ℕ) (t : List ℕ). take p t ++ marks (l.i + 1 + 1) (n - (l.i + 1)) (l.rest / 2)) m o),
           )
     ]
-
-pub shape_of-out : goal.shape_of-out
-shape_of-out c = c.loop-i.invariant.2
 
 pub returns : goal.returns
 returns c =

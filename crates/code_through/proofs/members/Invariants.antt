@@ -9,6 +9,3 @@ use Rattle.code_through.proofs.members.Given as goal
 
 abbrev pub invariant-loop-i : goal.invariant-loop-i
 invariant-loop-i l = (l.m ≤ l.i) × (l.i ≤ l.n) × (length l.out ≡ length l.initial.out) × (marks 1 l.n l.set ≡ take l.m l.out ++ marks (l.i + 1) (l.n - l.i) l.rest)
-
-abbrev pub decreases-loop-i : goal.decreases-loop-i
-decreases-loop-i l = l.n - l.i

@@ -1,9 +1,6 @@
 use native.Mathlib.Omega.{arith}
-use mathlib.Core.Path.{◌≡◌, sym, ap, ap₂, ◌∙◌}
-use Prim.Native.Nat.{ℕ}
-use lib.ListN.{drop}
+use mathlib.Core.Path.{sym, ap₂, ◌∙◌}
 use Rattle.field.specs.Field.{mul}
-use Rattle.code_through.specs.Sums.{differences}
 use Rattle.code_through.proofs.Weights.{differences_none, differences_next}
 use Rattle.code_through.proofs.product_at.Goals as goal
 
@@ -13,7 +10,3 @@ loop-j-init c = (omega arith, sym (differences_none c.args.points.now c.args.z))
 pub loop-j-preserved : goal.loop-j-preserved
 loop-j-preserved c =
     let a = c.args in let l = c.loop-j in (omega arith, c.product-v.ensures ∙ ap₂ mul c.add.ensures l.invariant.1 ∙ sym (differences_next a.points.now a.z l.j (omega arith) l.invariant.0))
-
-pub returns : goal.returns
-returns c =
-    let l = c.loop-j in let z : l.j ≡ 0 = omega arith in l.invariant.1 ∙ ap (λ (j : ℕ). differences (drop j c.args.points.now) c.args.z) z

@@ -8,6 +8,3 @@ use Rattle.code_through.proofs.product_at.Given as goal
 
 abbrev pub invariant-loop-j : goal.invariant-loop-j
 invariant-loop-j l = (l.j ≤ length l.points) × (l.v.0 ≡ differences (drop l.j l.points) l.z)
-
-abbrev pub decreases-loop-j : goal.decreases-loop-j
-decreases-loop-j l = l.j

@@ -3,10 +3,7 @@ use native.Mathlib.Omega.{arith}
 use lib.ListN.{get_or}
 use Rattle.field.specs.Field.{add, mul}
 use Rattle.code.proofs.Horner.{value_none, value_next}
-use mathlib.Core.Path.{◌≡◌}
 use Prim.Native.Nat.{ℕ, ◌-◌}
-use lib.ListN.{drop}
-use Rattle.code.specs.Code.{value}
 use Rattle.code_through.proofs.value_at.Goals as goal
 
 pub loop-j-init : goal.loop-j-init
@@ -20,10 +17,3 @@ loop-j-preserved c =
       c.fold-v.ensures ∙ ap (λ (v : ℕ). add (get_or a.row.now (l.j - 1) 0) (mul a.z v)) l.invariant.1 ∙ sym (value_next a.row.now a.z l.j
           (omega arith) l.invariant.0),
     )
-
-pub returns : goal.returns
-returns c =
-    let l = c.loop-j in
-    let a = c.args in
-    let e : l.j ≡ 0 = omega arith in
-    l.invariant.1 ∙ ap (λ (j : ℕ). value (drop j a.row.now) a.z) e
