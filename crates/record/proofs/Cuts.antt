@@ -11,10 +11,8 @@ use lib.ListN.{length, get_or, take}
 use lib.Seq.{get_or-take, length-take-le}
 use lib.Dec.{leb, ltb, eqb}
 use Rattle.octets.specs.Bytes.{pick, two_at}
-use Rattle.record.specs.Form.{need, field, parse, parse_root, parse_path, parse_fragment, is_kind, nodes_most, fragment_ok}
+use Rattle.record.specs.Form.{Read, Form, Fault, need, field, parse, parse_root, parse_path, parse_fragment, is_kind, nodes_most, fragment_ok}
 use Rattle.record.specs.Fields.{field_at}
-use Rattle.record.specs.declared.Read.{Read}
-use Rattle.record.specs.declared.Read.TheVariants.{Form, Fault}
 use Rattle.record.proofs.Facts.{Whole, whole}
 
 -- ---- every fault is listed, and its place is in the record or at its end

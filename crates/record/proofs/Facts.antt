@@ -8,9 +8,7 @@ use borrow.Author.Tests.{leb-true, eqb-true}
 use lib.ListN.{length, get_or}
 use lib.Dec.{leb, eqb}
 use Rattle.octets.specs.Bytes.{pick, two_at}
-use Rattle.record.specs.Form.{parse, parse_root, parse_path, parse_fragment, is_kind, nodes_most, fragment_ok}
-use Rattle.record.specs.declared.Read.{Read}
-use Rattle.record.specs.declared.Read.TheVariants.{Form, Fault}
+use Rattle.record.specs.Form.{Read, Form, Fault, parse, parse_root, parse_path, parse_fragment, is_kind, nodes_most, fragment_ok}
 
 -- a test on the way to a whole record was passed
 pub passed : (b : Bool) (x : Read) (w a k p f : ℕ) → pick b x (Fault w a) ≡ Form k p f → (b ≡ true) × (x ≡ Form k p f)

@@ -9,8 +9,7 @@ use lib.ListN.{length, get_or}
 use lib.Dec.{leb}
 use Rattle.octets.specs.Bytes.{pick}
 use Rattle.octets.proofs.Picks.{and_on, and_off_l, and_off_r}
-use Rattle.record.specs.Form.{parse, parse_root, is_kind}
-use Rattle.record.specs.declared.Read.TheVariants.{Fault}
+use Rattle.record.specs.Form.{Fault, parse, parse_root, is_kind}
 
 pub kind_in : (k : ℕ) → 1 ≤ k → k ≤ 3 → is_kind k ≡ true
 unfolding is_kind

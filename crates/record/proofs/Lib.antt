@@ -6,3 +6,4 @@ pub mod Round
 pub mod PartLaws
 pub mod Sections
 pub mod Cuts
+pub mod Reading

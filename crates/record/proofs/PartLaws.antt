@@ -10,8 +10,7 @@ use lib.Dec.{leb, eqb}
 use Rattle.octets.specs.Bytes.{pick, part}
 use Rattle.octets.proofs.Laws.{length_part}
 use Rattle.octets.proofs.Picks.{and_l, and_r}
-use Rattle.record.specs.Form.{out_bytes, parse, is_kind, nodes_most, path_ok, fragment_ok, record_of, form_of, Parts}
-use Rattle.record.specs.declared.Read.TheVariants.{Form}
+use Rattle.record.specs.Form.{Form, out_bytes, parse, is_kind, nodes_most, path_ok, fragment_ok, record_of, form_of, Parts}
 use Rattle.record.proofs.Facts.{passed, whole, nodes_le}
 use Rattle.record.proofs.Round.{read_back}
 

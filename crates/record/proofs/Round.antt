@@ -12,8 +12,7 @@ use native.Mathlib.Numerals.{add-one}
 use Rattle.octets.proofs.Laws.{length_part}
 use Rattle.record.proofs.Facts.{whole}
 use Rattle.octets.specs.Bytes.{pick, two_at, two, part}
-use Rattle.record.specs.Form.{parse, parse_root, parse_path, parse_fragment, is_kind, nodes_most, fragment_ok, record_of}
-use Rattle.record.specs.declared.Read.TheVariants.{Form}
+use Rattle.record.specs.Form.{Form, parse, parse_root, parse_path, parse_fragment, is_kind, nodes_most, fragment_ok, record_of}
 
 -- a two-byte number within a string is read
 pub two_mid : (v w : List ℕ) (x a : ℕ) → length v ≡ a → x < 65536 → two_at (v ++ (two x ++ w)) a ≡ x

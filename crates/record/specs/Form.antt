@@ -1,9 +1,13 @@
 -- Document 01, "Records": which bytes are a record, and where the others are at fault (document 02, request 2).
 use Rattle.std.specs.Prelude.{◌≡◌, ℕ, ◌+◌, ◌*◌, ◌/◌, ◌%◌, ◌≤◌, List, ◌∷◌, ◌++◌, Bool, ◌&&◌, length, get_or, leb, eqb}
 use Rattle.octets.specs.Bytes.{pick, two_at, two}
-use Rattle.record.specs.declared.Read.{Read}
-use Rattle.record.specs.declared.Read.TheVariants.{Form, Fault}
 use Rattle.record.specs.declared.Written.{Written}
+
+-- what reading a record finds: its form, that is its kind, the number of path nodes and that of fragment bytes; or the first field at fault: why,
+-- by document 02's numbers, and where it starts
+pub data Read : Type 0 where
+  Form : ℕ → ℕ → ℕ → Read
+  Fault : ℕ → ℕ → Read
 
 -- "a field that the bytes end inside or before is cut off at that field's start": next, unless the bytes end before a + n
 abbrev pub need : List ℕ → ℕ → ℕ → Read → Read

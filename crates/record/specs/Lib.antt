@@ -1,3 +1,4 @@
 -- What the contracts of `record` cite.
 pub mod Form
 pub mod Fields
+pub mod Kinds

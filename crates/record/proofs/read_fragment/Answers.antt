@@ -1,23 +1,33 @@
-use Rattle.octets.proofs.Picks.{picks}
+use mathlib.Core.Path.{refl}
+use native.Mathlib.Omega.{arith}
+use borrow.Author.Tests.{leb-true}
+use Rattle.octets.specs.Bytes.{pick}
 use Rattle.record.specs.Form.{parse_fragment}
+use Rattle.record.proofs.Reading.{stopped, fine}
 use Rattle.record.proofs.read_fragment.Goals as goal
 
-pub returns-then-s-at : goal.returns-then-s-at
-unfolding parse_fragment
-returns-then-s-at c = search picks
+pub returns-in_err-need : goal.returns-in_err-need
+unfolding parse_fragment pick
+returns-in_err-need c = stopped _ _ _ _ _ _ _ c.from_residual.ensures.1 c.need.ensures c.in_err-need.was
 
-pub returns-then-not-fragment_ok : goal.returns-then-not-fragment_ok
-unfolding parse_fragment
-returns-then-not-fragment_ok c = rw (← c.two_at-len.ensures.0, ← c.fragment_ok.ensures) (search picks depth 8)
+pub two_at-len-requires : goal.two_at-len-requires
+two_at-len-requires c = omega (arith, leb-true _ _ (fine _ _ _ _ c.need.ensures c.in_ok-need.was))
 
-pub returns-then-s-at-2 : goal.returns-then-s-at-2
-unfolding parse_fragment
-returns-then-s-at-2 c = rw (← c.two_at-len.ensures.0, ← c.fragment_ok.ensures) (search picks depth 8)
+pub returns-in_err-field : goal.returns-in_err-field
+unfolding parse_fragment pick
+returns-in_err-field c = rw (fine _ _ _ _ c.need.ensures c.in_ok-need.was, ← c.two_at-len.ensures.0, ← c.takes_fragment.ensures) (stopped _ _ _ _ _ _ _ c.from_residual-in_err-field.ensures.1 c.field.ensures c.in_err-field.was)
 
-pub returns-then-at-len : goal.returns-then-at-len
-unfolding parse_fragment
-returns-then-at-len c = rw (← c.two_at-len.ensures.0, ← c.fragment_ok.ensures) (search picks depth 8)
+pub need-requires-2 : goal.need-requires-2
+need-requires-2 c = (omega arith, omega arith)
+
+pub returns-in_err-need-2 : goal.returns-in_err-need-2
+unfolding parse_fragment pick
+returns-in_err-need-2 c = rw (fine _ _ _ _ c.need.ensures c.in_ok-need.was, ← c.two_at-len.ensures.0, ← c.takes_fragment.ensures, fine _ _ _ _ c.field.ensures c.in_ok-field.was) (stopped _ _ _ _ _ _ _ c.from_residual-in_err-need-2.ensures.1 c.need-2.ensures c.in_err-need-2.was)
+
+pub returns-in_err-field-2 : goal.returns-in_err-field-2
+unfolding parse_fragment pick
+returns-in_err-field-2 c = rw (fine _ _ _ _ c.need.ensures c.in_ok-need.was, ← c.two_at-len.ensures.0, ← c.takes_fragment.ensures, fine _ _ _ _ c.field.ensures c.in_ok-field.was, fine _ _ _ _ c.need-2.ensures c.in_ok-need-2.was) (stopped _ _ _ _ _ _ _ c.from_residual-in_err-field-2.ensures.1 c.field-2.ensures c.in_err-field-2.was)
 
 pub returns : goal.returns
-unfolding parse_fragment
-returns c = rw (← c.two_at-len.ensures.0, ← c.fragment_ok.ensures) (search picks depth 8)
+unfolding parse_fragment pick
+returns c = rw (fine _ _ _ _ c.need.ensures c.in_ok-need.was, ← c.two_at-len.ensures.0, ← c.takes_fragment.ensures, fine _ _ _ _ c.field.ensures c.in_ok-field.was, fine _ _ _ _ c.need-2.ensures c.in_ok-need-2.was, fine _ _ _ _ c.field-2.ensures c.in_ok-field-2.was) (refl)

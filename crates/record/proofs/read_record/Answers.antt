@@ -1,25 +1,21 @@
-use Rattle.octets.proofs.Picks.{picks}
 use native.Mathlib.Omega.{arith}
-use mathlib.Core.Path.{◌∙◌}
+use borrow.Author.Tests.{leb-true}
+use Rattle.octets.specs.Bytes.{pick}
 use Rattle.record.specs.Form.{parse}
-use Rattle.record.proofs.KindByte.{parse_kind, parse_low, parse_high}
+use Rattle.record.proofs.Reading.{stopped, fine, some_kind, kind_stopped, kind_fine}
 use Rattle.record.proofs.read_record.Goals as goal
 
-pub returns-then-s-lt1 : goal.returns-then-s-lt1
-unfolding parse
-returns-then-s-lt1 c = search picks
+pub returns-in_err-need : goal.returns-in_err-need
+unfolding parse pick
+returns-in_err-need c = stopped _ _ _ _ _ _ _ c.from_residual.ensures.1 c.need.ensures c.in_err-need.was
 
-pub returns-in-1 : goal.returns-in-1
-returns-in-1 c = c.read_root.ensures ∙ parse_kind c.args.s.now 1 (omega arith) (omega arith) (omega arith) (omega arith)
+pub bounds-s-0 : goal.bounds-s-0
+bounds-s-0 c = omega (arith, leb-true _ _ (fine _ _ _ _ c.need.ensures c.in_ok-need.was))
 
-pub returns-in-2 : goal.returns-in-2
-returns-in-2 c = c.read_root-in-2.ensures ∙ parse_kind c.args.s.now 2 (omega arith) (omega arith) (omega arith) (omega arith)
+pub returns-in_err-kind : goal.returns-in_err-kind
+unfolding parse pick
+returns-in_err-kind c = rw (fine _ _ _ _ c.need.ensures c.in_ok-need.was) (kind_stopped _ _ _ _ _ c.from_residual-in_err-kind.ensures.1 c.try_from.ensures c.in_err-kind.was)
 
-pub returns-in-3 : goal.returns-in-3
-returns-in-3 c = c.read_root-in-3.ensures ∙ parse_kind c.args.s.now 3 (omega arith) (omega arith) (omega arith) (omega arith)
-
-pub returns-in-0 : goal.returns-in-0
-returns-in-0 c = parse_low c.args.s.now (omega arith) (omega arith)
-
-pub returns-in-0-2 : goal.returns-in-0-2
-returns-in-0-2 c = parse_high c.args.s.now (omega arith) (omega arith)
+pub returns : goal.returns
+unfolding parse pick
+returns c = rw (fine _ _ _ _ c.need.ensures c.in_ok-need.was, ← kind_fine _ _ _ c.try_from.ensures c.in_ok-kind.was, some_kind _) (c.read_root.ensures)

@@ -1,19 +1,25 @@
-use Rattle.octets.proofs.Picks.{picks}
+use native.Mathlib.Omega.{arith}
+use borrow.Author.Tests.{leb-true}
+use Rattle.octets.specs.Bytes.{pick}
 use Rattle.record.specs.Form.{parse_root}
+use Rattle.record.proofs.Reading.{stopped, fine}
 use Rattle.record.proofs.read_root.Goals as goal
 
-pub returns-then-s-lt3 : goal.returns-then-s-lt3
-unfolding parse_root
-returns-then-s-lt3 c = search picks
+pub returns-in_err-need : goal.returns-in_err-need
+unfolding parse_root pick
+returns-in_err-need c = stopped _ _ _ _ _ _ _ c.from_residual.ensures.1 c.need.ensures c.in_err-need.was
 
-pub returns-then-two_at-ne32 : goal.returns-then-two_at-ne32
-unfolding parse_root
-returns-then-two_at-ne32 c = rw (← c.two_at.ensures.0) (search (picks, c.if-two_at-ne32.true) depth 8)
+pub two_at-requires : goal.two_at-requires
+two_at-requires c = omega (arith, leb-true _ _ (fine _ _ _ _ c.need.ensures c.in_ok-need.was))
 
-pub returns-then-s-lt35 : goal.returns-then-s-lt35
-unfolding parse_root
-returns-then-s-lt35 c = rw (← c.two_at.ensures.0) (search picks depth 8)
+pub returns-in_err-field : goal.returns-in_err-field
+unfolding parse_root pick
+returns-in_err-field c = rw (fine _ _ _ _ c.need.ensures c.in_ok-need.was, ← c.two_at.ensures.0) (stopped _ _ _ _ _ _ _ c.from_residual-in_err-field.ensures.1 c.field.ensures c.in_err-field.was)
+
+pub returns-in_err-need-2 : goal.returns-in_err-need-2
+unfolding parse_root pick
+returns-in_err-need-2 c = rw (fine _ _ _ _ c.need.ensures c.in_ok-need.was, ← c.two_at.ensures.0, fine _ _ _ _ c.field.ensures c.in_ok-field.was) (stopped _ _ _ _ _ _ _ c.from_residual-in_err-need-2.ensures.1 c.need-2.ensures c.in_err-need-2.was)
 
 pub returns : goal.returns
-unfolding parse_root
-returns c = rw (← c.two_at.ensures.0) (search picks depth 8)
+unfolding parse_root pick
+returns c = rw (fine _ _ _ _ c.need.ensures c.in_ok-need.was, ← c.two_at.ensures.0, fine _ _ _ _ c.field.ensures c.in_ok-field.was, fine _ _ _ _ c.need-2.ensures c.in_ok-need-2.was) (c.read_path.ensures)

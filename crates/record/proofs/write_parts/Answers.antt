@@ -42,6 +42,7 @@ pub returns : goal.returns
 returns c =
     let p = c.requires in
     rw (
+      ← c.number.ensures,
       c.copy_at-3.ensures,
       c.put_two-2.ensures,
       c.copy_at-2.ensures,
