@@ -1,14 +1,12 @@
 // A board's state in a lent buffer.
 #![tactic(auto)]
 
-ghost use Rattle.std.specs.Prelude.{◌≡◌, true, ◌≤◌, length};
+ghost use Rattle.std.specs.Prelude.{◌≡◌, ◌≤◌, length};
 ghost use Rattle.octets.specs.Bytes.{put};
-ghost use Rattle.octets.specs.Sets.{bit};
-ghost use Rattle.table.specs.Table.{limits};
 ghost use Rattle.state.specs.State.{marks_at, fixed_bytes, state_size, table_of, own_of, marks_of, marks_bytes};
 
-use octets::{eight_at, put_eight, two_at, wide};
-use table::{Table, fragment_most};
+use octets::{eight_at, put_eight, two_at};
+use table::{InLimits, Table};
 
 // The first bytes of a state, all that soundness looks at; the fragments kept follow.
 pub const FIXED_BYTES: usize = 4608;
@@ -43,6 +41,7 @@ pub const ECHO_ROOTS: usize = 256;
 pub const VOTE_ROOTS: usize = 2304;
 
 // Where a value of each board is kept: board i + 1's at base + room * i. A sized place begins with a byte that says how many follow.
+// Stays: `span`, by which the definitions say how long a value is, takes the flag as a test.
 #[derive(Clone, Copy)]
 pub struct Places {
     pub base: usize,
@@ -76,22 +75,22 @@ pub struct Marks {
 }
 
 // How many bytes a state buffer needs.
-pub fn state_size(b: Table) -> usize
-    requires { limits b ≡ true }
-    ensures { result ≡ state_size b }
+pub fn state_size(b: InLimits) -> usize
+    ensures { result ≡ state_size b.table }
 {
-    FIXED_BYTES + b.n * fragment_most(b)
+    FIXED_BYTES + b.table.n * b.fragment_most()
 }
 
 // The table in a state.
+// Stays: this and what follows ask for the fixed part; a type for it is no plainer, since each is one look at a buffer that is then written.
 pub fn read_table(s: &[u8]) -> Table
     requires { fixed_bytes ≤ length s.now }
     ensures { result ≡ table_of s.now }
 {
     Table {
-        n: wide(s[0]),
-        t: wide(s[1]),
-        sender: wide(s[2]),
+        n: usize::from(s[0]),
+        t: usize::from(s[1]),
+        sender: usize::from(s[2]),
         longest: two_at(s, LONGEST),
     }
 }
@@ -101,7 +100,7 @@ pub fn read_own(s: &[u8]) -> usize
     requires { fixed_bytes ≤ length s.now }
     ensures { result ≡ own_of s.now }
 {
-    wide(s[OWN])
+    usize::from(s[OWN])
 }
 
 // The flags and sets in a state.
@@ -120,22 +119,15 @@ pub fn read_marks(s: &[u8]) -> Marks
     }
 }
 
-// A flag's byte.
-pub fn flag_byte(b: bool) -> u8
-    ensures { result ≡ bit b }
-{
-    if b { 1 } else { 0 }
-}
-
 // The flags and sets put into a state.
 pub fn write_marks(s: &mut [u8], m: Marks)
     requires { fixed_bytes ≤ length s.old }
     ensures { s.new ≡ put marks_at (marks_bytes m) s.old }
 {
-    s[ACQUIRED] = flag_byte(m.acquired);
-    s[VOTED] = flag_byte(m.voted);
-    s[OUTPUT] = flag_byte(m.output);
-    s[DONE] = flag_byte(m.done);
+    s[ACQUIRED] = u8::from(m.acquired);
+    s[VOTED] = u8::from(m.voted);
+    s[OUTPUT] = u8::from(m.output);
+    s[DONE] = u8::from(m.done);
     put_eight(s, ECHOES, m.echoes);
     put_eight(s, USABLE, m.usable);
     put_eight(s, VOTES, m.votes);

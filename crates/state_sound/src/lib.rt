@@ -1,133 +1,94 @@
 // Whether a board's state is sound.
 #![tactic(auto)]
 
-ghost use Rattle.std.specs.Prelude.{◌≡◌, true, not, ◌||◌, ◌≤◌, ◌<◌, length};
+ghost use Rattle.std.specs.Prelude.{◌≡◌, ◌≤◌, ◌<◌, length};
 ghost use Rattle.octets.specs.Sets.{every};
-ghost use Rattle.table.specs.Table.{limits, s_max};
+ghost use Rattle.table.specs.Table.{s_max};
 ghost use Rattle.state.specs.State.{fixed_bytes, view, view_of};
 ghost use Rattle.state.specs.Sound.{sets_ok, flags_ok, board_ok, waits_at, waits, quiet, sound};
 
-use naming::{naming_count, reached};
+use naming::Kept;
 use octets::two_at;
-use state::{
-    ECHO_PLACES, KEPT_LENGTHS, Marks, VOTE_PLACES, VOTE_ROOTS, read_marks, read_own, read_table,
-};
-use table::{Table, below, fragment_most, fragments_needed, has_board, in_limits, is_board};
+use state::{KEPT_LENGTHS, Marks, read_marks, read_own, read_table};
+use table::{InLimits, below, has_board};
 
-// Whether the root that board i + 1 voted for has n - t votes and fewer than k usable echoes.
-fn waits_at(s: &[u8], b: Table, m: Marks, i: usize) -> bool
-    requires { (fixed_bytes ≤ length s.now) × ((limits b ≡ true) × (i < 64)) }
-    ensures { result ≡ waits_at (view_of b m s.now) i }
-{
-    if !has_board(m.votes, i) {
-        return false;
-    }
-    if naming_count(s, VOTE_PLACES, m.votes, s, VOTE_ROOTS + 32 * i, b.n) < b.n - b.t {
-        return false;
-    }
-    naming_count(s, ECHO_PLACES, m.usable, s, VOTE_ROOTS + 32 * i, b.n) < fragments_needed(b)
+// A state that is looked at: its table is within its limits.
+#[derive(Clone, Copy)]
+struct Seen<'a> {
+    s: &'a [u8],
+    b: InLimits,
+    m: Marks,
+    ghost long: { fixed_bytes ≤ length s.now },
 }
 
-// Whether a root has n - t votes and fewer than k usable echoes.
-fn waiting(s: &[u8], b: Table, m: Marks) -> bool
-    requires { (fixed_bytes ≤ length s.now) × (limits b ≡ true) }
-    ensures { result ≡ waits (view_of b m s.now) }
-{
-    let n = b.n;
-    let mut i = 0;
-    while i < n {
-        if waits_at(s, b, m, i) {
-            return true;
+impl Seen<'_> {
+    // Whether the root that board i + 1 voted for has n - t votes and fewer than k usable echoes.
+    fn waits_at(&self, i: usize) -> bool
+        requires { i < 64 }
+        ensures { result ≡ waits_at (view_of self.now.b.table self.now.m self.now.s.now) i }
+    {
+        let votes = Kept::votes(self.s, self.b, self.m.votes);
+        votes.backs(self.b.most(), i)
+            && Kept::echoes(self.s, self.b, self.m.usable).count(votes.value(i))
+                < self.b.fragments_needed()
+    }
+
+    // Whether a root has n - t votes and fewer than k usable echoes.
+    fn waits(&self) -> bool
+        ensures { result ≡ waits (view_of self.now.b.table self.now.m self.now.s.now) }
+    {
+        (0..self.b.table.n).any(|i| self.waits_at(i))
+    }
+
+    // Whether board i + 1 is usable only if its echo was heard, and its kept length is in order; `most` is s_max.
+    fn board_ok(&self, most: usize, i: usize) -> bool
+        requires { (most ≡ s_max self.now.b.table) × (i < 64) }
+        ensures { result ≡ board_ok (view_of self.now.b.table self.now.m self.now.s.now) i }
+    {
+        let len = two_at(self.s, KEPT_LENGTHS + 2 * i);
+        if has_board(self.m.echoes, i) {
+            1 <= len && len <= most
+        } else {
+            !has_board(self.m.usable, i) && len == 0
         }
-        i += 1;
     }
-    false
-}
 
-// Whether one test implies another.
-pub fn implies(a: bool, b: bool) -> bool
-    ensures { result ≡ (not a || b) }
-{
-    if a { b } else { true }
-}
+    // The same of all 64 places, those above n too.
+    fn boards_ok(&self) -> bool
+        ensures { result ≡ every (board_ok (view_of self.now.b.table self.now.m self.now.s.now)) 0 64 }
+    {
+        let most = self.b.fragment_most();
+        (0..64).all(|i| self.board_ok(most, i))
+    }
 
-// Whether board i + 1 is usable only if its echo was heard, and its kept length is in order; `most` is s_max.
-fn board_ok(s: &[u8], b: Table, m: Marks, most: usize, i: usize) -> bool
-    requires { (fixed_bytes ≤ length s.now) × ((most ≡ s_max b) × (i < 64)) }
-    ensures { result ≡ board_ok (view_of b m s.now) i }
-{
-    let heard = has_board(m.echoes, i);
-    if !implies(has_board(m.usable, i), heard) {
-        return false;
+    // Whether the sets name no board above n.
+    fn sets_ok(&self) -> bool
+        ensures { result ≡ sets_ok self.now.b.table self.now.m }
+    {
+        let n = self.b.table.n;
+        below(self.m.echoes, n) && below(self.m.usable, n) && below(self.m.votes, n)
     }
-    let len = two_at(s, KEPT_LENGTHS + 2 * i);
-    if !heard {
-        return len == 0;
-    }
-    if len < 1 {
-        return false;
-    }
-    len <= most
-}
 
-// The same of all 64 places, those above n too.
-fn boards_ok(s: &[u8], b: Table, m: Marks) -> bool
-    requires { (fixed_bytes ≤ length s.now) × (limits b ≡ true) }
-    ensures { result ≡ every (board_ok (view_of b m s.now)) 0 64 }
-{
-    let most = fragment_most(b);
-    let mut i = 0;
-    while i < 64 {
-        if !board_ok(s, b, m, most, i) {
-            return false;
+    // Whether the output stage is open only after a vote, and done only in the output stage.
+    fn flags_ok(&self) -> bool
+        ensures { result ≡ flags_ok self.now.m }
+    {
+        (!self.m.output || self.m.voted) && (!self.m.done || self.m.output)
+    }
+
+    // Whether nothing is overdue.
+    fn is_quiet(&self) -> bool
+        ensures { result ≡ quiet (view_of self.now.b.table self.now.m self.now.s.now) }
+    {
+        if self.m.output {
+            self.m.done || self.waits()
+        } else if self.m.voted {
+            !Kept::votes(self.s, self.b, self.m.votes).reached(self.b.most())
+        } else {
+            !Kept::echoes(self.s, self.b, self.m.echoes).reached(self.b.most())
+                && !Kept::votes(self.s, self.b, self.m.votes).reached(self.b.some())
         }
-        i += 1;
     }
-    true
-}
-
-// Whether the sets name no board above n.
-fn sets_ok(b: Table, m: Marks) -> bool
-    requires { limits b ≡ true }
-    ensures { result ≡ sets_ok b m }
-{
-    if !below(m.echoes, b.n) {
-        return false;
-    }
-    if !below(m.usable, b.n) {
-        return false;
-    }
-    below(m.votes, b.n)
-}
-
-// Whether the output stage is open only after a vote, and done only in the output stage.
-fn flags_ok(m: Marks) -> bool
-    ensures { result ≡ flags_ok m }
-{
-    if !implies(m.output, m.voted) {
-        return false;
-    }
-    implies(m.done, m.output)
-}
-
-// Whether nothing is overdue.
-fn is_quiet(s: &[u8], b: Table, m: Marks) -> bool
-    requires { (fixed_bytes ≤ length s.now) × (limits b ≡ true) }
-    ensures { result ≡ quiet (view_of b m s.now) }
-{
-    if m.output {
-        if m.done {
-            return true;
-        }
-        return waiting(s, b, m);
-    }
-    if m.voted {
-        return !reached(s, VOTE_PLACES, m.votes, b.n, b.n - b.t);
-    }
-    if reached(s, ECHO_PLACES, m.echoes, b.n, b.n - b.t) {
-        return false;
-    }
-    !reached(s, VOTE_PLACES, m.votes, b.n, b.t + 1)
 }
 
 // Whether the state is sound.
@@ -135,22 +96,13 @@ pub fn is_sound(s: &[u8]) -> bool
     requires { fixed_bytes ≤ length s.now }
     ensures { result ≡ sound (view s.now) }
 {
-    let b = read_table(s);
-    if !in_limits(b) {
+    let Ok(b) = InLimits::try_from(read_table(s)) else {
         return false;
-    }
-    if !is_board(b, read_own(s)) {
-        return false;
-    }
-    let m = read_marks(s);
-    if !sets_ok(b, m) {
-        return false;
-    }
-    if !flags_ok(m) {
-        return false;
-    }
-    if !boards_ok(s, b, m) {
-        return false;
-    }
-    is_quiet(s, b, m)
+    };
+    let x = Seen {
+        s: s,
+        b: b,
+        m: read_marks(s),
+    };
+    b.table.is_board(read_own(s)) && x.sets_ok() && x.flags_ok() && x.boards_ok() && x.is_quiet()
 }

@@ -3,4 +3,4 @@ use Rattle.state.proofs.read_own.Goals as goal
 
 pub returns : goal.returns
 unfolding own_of
-returns c = c.wide.ensures.0
+returns c = c.from.ensures

@@ -1,0 +1,2 @@
+-- Laws of tests.
+pub mod Tests
