@@ -11,6 +11,7 @@ use borrow.Author.Tests.{le-leb, eq-eqb}
 use lib.Count.{ones}
 use lib.ListN.{length, get_or, take}
 use lib.Seq.{take-take, length-take-le}
+use Rattle.std.specs.Prelude.{Some}
 use Rattle.octets.specs.Bytes.{pick, part, put, same, four_at, two_at}
 use Rattle.octets.specs.Sets.{has}
 use Rattle.octets.proofs.Laws.{length_part}
@@ -29,20 +30,19 @@ use Rattle.code_through.proofs.Marks.{between, marks_have, length_marks}
 use Rattle.code_through.proofs.Rows.{first_boards, first_take}
 use Rattle.code_through.proofs.Agree.{boards, apart_first, enough_marks, length_first}
 use Rattle.tree.specs.Tree.{root_of}
-use Rattle.octets.proofs.Parts.{part_all}
-use Rattle.deliver.specs.declared.Delivered.{Delivered}
+use Rattle.deliver.specs.declared.Delivery.TheVariants.{Message, Void}
 use Rattle.deliver.specs.Delivered.{all_of_length, block_read, read_from, afresh, result_from, Left, left, left_by}
 use Rattle.deliver_afresh.specs.Working.{Anew}
-use Rattle.deliver.specs.Working.{fresh_byte, Readied}
+use Rattle.deliver.specs.Working.{fresh_byte, ReadAs}
 use Rattle.deliver.proofs.Fresh.{anew}
 
 abbrev leaves : ℕ → ℕ → List ℕ → Left
 leaves k n out = record { kind = k; size = n; buffer = out }
 
 -- void
-pub left_void : (r : Delivered) (out : List ℕ) (o : Option (List ℕ)) → (r.kind ≡ 2) × (r.length ≡ 0) → o ≡ none → left r out ≡ left_by o out
+pub left_void : (out : List ℕ) (o : Option (List ℕ)) → o ≡ none → left (Some Void) out ≡ left_by o out
 unfolding left_by
-left_void r out o e n = ap₂ (λ (k l : ℕ). leaves k l out) e.0 e.1 ∙ ap (λ (o : Option (List ℕ)). left_by o out) (sym n)
+left_void out o n = ap (λ (o : Option (List ℕ)). left_by o out) (sym n)
 
 -- the rows that a message takes hold it and its length
 pub rows_hold : (k m : ℕ) → 0 < k → 4 + m ≤ rows k m * k
@@ -57,17 +57,6 @@ rows_before k m len pos more e =
     let back : len - 1 + 1 ≡ len = omega arith in
     let q : (len - 1) * k + k ≡ len * k = sym (N.add-mul (len - 1) 1 k ∙ ap (λ (n : ℕ). (len - 1) * k + n) (N.one-mul k)) ∙ ap (λ (n : ℕ). n * k) back in
     omega (arith, N.div-mul-le_self x k, ap (λ (n : ℕ). n * k) e)
-
--- the block cannot be read
-pub refused : (b : Table) (k len : ℕ) (given l : List ℕ) → ((root : List ℕ) → afresh b root (block_read b given) ≡ none) → Readied b k len given 16385 l
-refused b k len given l h = record {
-  unread = λ g. h;
-  size = λ g. absurd (omega arith);
-  enough = λ g. absurd (omega arith);
-  fits = λ g. absurd (omega arith);
-  count = λ g. absurd (omega arith);
-  last = λ g. absurd (omega arith);
-}
 
 fragment_anew : (b : Table) (given : List ℕ) (len : ℕ) (l : List ℕ) (i : ℕ)
     → Anew (k_of b) len given l (suc i) (fragment_of (k_of b) (block (k_of b) (block_message given)) (suc i)) → Anew (k_of b) len given l (suc i) (fragment_for b (block_message given) i)
@@ -114,58 +103,56 @@ module _ (b : Table) (root given : List ℕ) (k len size : ℕ) (limited : limit
         unread (λ r. differ (ap₂ rows ek e ∙ sym (N.mul-div_cancel (rows (k_of b) (four_at given 0)) pos)
         ∙ ap (λ (n : ℕ). n / k_of b) (sym r.whole ∙ whole_rows) ∙ N.mul-div_cancel len pos))
 
-    module _ (enough : 4 ≤ len * k) (fits : size ≤ b.longest) (el : rows k size ≡ len) where
-      rows_given : rows (k_of b) (four_at given 0) ≡ len
-      rows_given = ap₂ rows (sym ek) (sym e) ∙ el
+  -- a block that is read, and l, the last row of the one that is encoded afresh
+  module _ (l : List ℕ) (R : ReadAs b k len given size l) where
+    e : size ≡ four_at given 0
+    e = R.size
 
-      reads : readable (k_of b) b.longest given ≡ true
-      unfolding readable
-      reads =
-          let most : four_at given 0 ≤ b.longest = omega arith in
-          let full : length given % k_of b ≡ 0 = ap (λ (n : ℕ). n % k_of b) whole_rows ∙ N.mul-mod_left len (k_of b) in
-          let many : rows (k_of b) (four_at given 0) ≡ length given / k_of b = rows_given ∙ sym (ap (λ (n : ℕ). n / k_of b) whole_rows ∙ N.mul-div_cancel len pos) in
-          let four_more : 4 ≤ length given = omega arith in
-          and_on _ _ (le-leb _ _ four_more) (and_on _ _ (eq-eqb _ _ full) (and_on _ _ (le-leb _ _ most) (eq-eqb _ _ many)))
+    rows_given : rows (k_of b) (four_at given 0) ≡ len
+    rows_given = ap₂ rows (sym ek) (sym e) ∙ R.count
 
-      facts : Readable (k_of b) b.longest given
-      facts = readable_facts (k_of b) b.longest given pos reads
+    reads : readable (k_of b) b.longest given ≡ true
+    unfolding readable
+    reads =
+        let most : four_at given 0 ≤ b.longest = omega (arith, R.size, R.fits) in
+        let full : length given % k_of b ≡ 0 = ap (λ (n : ℕ). n % k_of b) whole_rows ∙ N.mul-mod_left len (k_of b) in
+        let many : rows (k_of b) (four_at given 0) ≡ length given / k_of b = rows_given ∙ sym (ap (λ (n : ℕ). n / k_of b) whole_rows ∙ N.mul-div_cancel len pos) in
+        let four_more : 4 ≤ length given = omega (arith, R.enough) in
+        and_on _ _ (le-leb _ _ four_more) (and_on _ _ (eq-eqb _ _ full) (and_on _ _ (le-leb _ _ most) (eq-eqb _ _ many)))
 
-      -- the fragments of the message that was read
-      pub fragments_anew : 0 < len → ((p : ℕ) → get_or given p 0 < 256) → (l : List ℕ) → length l ≡ k
-          → ((q : ℕ) → q < k → get_or l q 0 ≡ fresh_byte (4 + size) given ((len - 1) * k + q)) → (i : ℕ) → Anew k len given l (suc i) (fragment_for b (block_message given) i)
-      fragments_anew more small l =
-          subst (λ (k : ℕ). length l ≡ k → ((q : ℕ) → q < k → get_or l q 0 ≡ fresh_byte (4 + size) given ((len - 1) * k + q))
-          → (i : ℕ) → Anew k len given l (suc i) (fragment_for b (block_message given) i)) (sym ek) (at_k more small l)
-        where
-          at_k : 0 < len → ((p : ℕ) → get_or given p 0 < 256) → (l : List ℕ) → length l ≡ k_of b
-              → ((q : ℕ) → q < k_of b → get_or l q 0 ≡ fresh_byte (4 + size) given ((len - 1) * k_of b + q)) → (i : ℕ) → Anew (k_of b) len given l (suc i) (fragment_for b (block_message given) i)
-          at_k more small l le f i =
-              fragment_anew b given len l i
-              (anew (k_of b) b.longest given pos small facts len rows_given l more le
-              (λ q h. f q h ∙ ap (λ (n : ℕ). fresh_byte (4 + n) given ((len - 1) * k_of b + q)) e) (suc i))
+    facts : Readable (k_of b) b.longest given
+    facts = readable_facts (k_of b) b.longest given pos reads
 
-      module _ (fresh : List ℕ) (er : part 0 32 fresh ≡ root_of b.n (fragment_for b (block_message given))) (lr : length root ≡ 32) where
-        compared : (c : Bool) → c ≡ same (part 0 32 fresh) (part 0 32 root) → same (root_of b.n (fragment_for b (block_message given))) root ≡ c
-        compared c h = sym (h ∙ ap₂ same er (part_all 32 root lr))
+    -- the fragments of the message that was read
+    pub fragments_anew : 0 < len → ((p : ℕ) → get_or given p 0 < 256) → length l ≡ k → (i : ℕ) → Anew k len given l (suc i) (fragment_for b (block_message given) i)
+    fragments_anew more small le =
+        subst (λ (k : ℕ). length l ≡ k → ((q : ℕ) → q < k → get_or l q 0 ≡ fresh_byte (4 + size) given ((len - 1) * k + q))
+        → (i : ℕ) → Anew k len given l (suc i) (fragment_for b (block_message given) i)) (sym ek) (at_k more small l) le R.last
+      where
+        at_k : 0 < len → ((p : ℕ) → get_or given p 0 < 256) → (l : List ℕ) → length l ≡ k_of b
+            → ((q : ℕ) → q < k_of b → get_or l q 0 ≡ fresh_byte (4 + size) given ((len - 1) * k_of b + q)) → (i : ℕ) → Anew (k_of b) len given l (suc i) (fragment_for b (block_message given) i)
+        at_k more small l le f i =
+            fragment_anew b given len l i
+            (anew (k_of b) b.longest given pos small facts len rows_given l more le
+            (λ q h. f q h ∙ ap (λ (n : ℕ). fresh_byte (4 + n) given ((len - 1) * k_of b + q)) e) (suc i))
 
-        by_root : (c : Bool) → c ≡ same (part 0 32 fresh) (part 0 32 root) → afresh b root (block_read b given) ≡ pick c (some (block_message given)) none
-        unfolding afresh block_read pick
-        by_root c h =
-            ap (λ (c : Bool). afresh b root (pick c (some (block_message given)) none)) reads
-            ∙ ap (λ (c : Bool). pick c (some (block_message given)) none) (compared c h)
+    -- the root that it is encoded to afresh
+    module _ (fresh : List ℕ) (er : fresh ≡ root_of b.n (fragment_for b (block_message given))) where
+      by_root : afresh b root (block_read b given) ≡ pick (same fresh root) (some (block_message given)) none
+      unfolding afresh block_read pick
+      by_root =
+          ap (λ (c : Bool). afresh b root (pick c (some (block_message given)) none)) reads
+          ∙ ap (λ (r : List ℕ). pick (same r root) (some (block_message given)) none) (sym er)
 
-        pub root_differs : (c : Bool) → c ≡ false → c ≡ same (part 0 32 fresh) (part 0 32 root) → afresh b root (block_read b given) ≡ none
-        unfolding pick
-        root_differs c n h = by_root c h ∙ ap (λ (c : Bool). pick c (some (block_message given)) none) n
+      pub root_differs : same fresh root ≡ false → afresh b root (block_read b given) ≡ none
+      unfolding pick
+      root_differs n = by_root ∙ ap (λ (c : Bool). pick c (some (block_message given)) none) n
 
-        pub root_same : (c : Bool) → c ≡ true → c ≡ same (part 0 32 fresh) (part 0 32 root) → (r : Delivered) (old new : List ℕ)
-            → r.kind ≡ 1 → r.length ≡ size → new ≡ put 0 (part 4 size given) old → left r new ≡ left_by (afresh b root (block_read b given)) old
-        root_same c y h r old new e1 e2 en =
-            ap₂ (λ (k l : ℕ). leaves k l new) e1 e2 ∙ ap (leaves 1 size) en ∙ message_left size given old e facts.size
-            ∙ ap (λ (o : Option (List ℕ)). left_by o old) (sym (picked c y h))
-          where
-            picked : (c : Bool) → c ≡ true → c ≡ same (part 0 32 fresh) (part 0 32 root) → afresh b root (block_read b given) ≡ some (block_message given)
-            picked c y h = by_root c h ∙ ap (λ (c : Bool). pick c (some (block_message given)) none) y ∙ pick_true (block_message given)
+      pub root_same : same fresh root ≡ true → (old new : List ℕ)
+          → new ≡ put 0 (part 4 size given) old → left (Some (Message size)) new ≡ left_by (afresh b root (block_read b given)) old
+      root_same y old new en =
+          ap (leaves 1 size) en ∙ message_left size given old e facts.size
+          ∙ ap (λ (o : Option (List ℕ)). left_by o old) (sym (by_root ∙ ap (λ (c : Bool). pick c (some (block_message given)) none) y ∙ pick_true (block_message given)))
 
 -- ---- the kept fragments
 

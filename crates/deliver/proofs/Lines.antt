@@ -1,16 +1,18 @@
 -- The rows of the block: a coefficient is the sum of the kept bytes times their scales, each by its weight.
 -- Assumes nothing.
 use mathlib.Core.Path.{◌≡◌, refl, sym, ap, ◌∙◌, subst}
-use mathlib.Core.Logic.{inl, ⊎_elim}
+use mathlib.Core.Logic.{⊎_elim}
 use mathlib.Core.List.{List}
 use Prim.Native.Nat.{ℕ, suc, ◌+◌, ◌-◌, ◌*◌, ◌/◌, ◌%◌, ◌<◌, ◌≤◌, min}
 use native.Mathlib.Nat as N
 use native.Mathlib.Omega.{arith}
 use borrow.Author.Tests.{lt-ltb, le-ltb}
 use lib.Seq.{get_or-set_same, get_or-set_other}
-use lib.ListN.{length, get_or, set, drop, replicate, length-replicate, get_or-replicate}
-use Rattle.octets.specs.Bytes.{tab, put}
-use Rattle.octets.proofs.Laws.{get_d_put_in, get_d_put_out}
+use borrow.Rule.Slice.PartMut.{put_mid}
+use Rattle.std.proofs.Common.{rules}
+use Rattle.std.proofs.lemmas.List.{places}
+use lib.ListN.{length, get_or, set, drop, replicate}
+use Rattle.octets.specs.Bytes.{tab}
 use Rattle.octets.proofs.Picks.{pick_on, pick_off}
 use Rattle.octets.proofs.Tables.{get_d_tab}
 use Rattle.octets.proofs.Walk.{lt_or_le}
@@ -44,29 +46,29 @@ row_byte area s xs m ds len b es ts c q n M E W hc hq e =
     swap : (d y v : ℕ) → mul (mul d y) v ≡ mul (mul d v) y
     swap d y v = L.mul_assoc d y v ∙ ap (mul d) (L.mul_comm y v) ∙ sym (L.mul_assoc d v y)
 
--- the next byte is in the same row, unless it begins one
-pub same_row : (p k : ℕ) → 0 < k → 0 < (p + 1) % k → (p + 1) / k ≡ p / k
-same_row p k pos h =
-    let a = N.div-add-mod' (p + 1) k in
-    let low : p / k < (p + 1) / k + 1 = (N.div-lt_iff_lt-mul pos).1 (omega (arith, N.mod-lt (p + 1) pos, N.add-mul ((p + 1) / k) 1 k, N.one-mul k)) in
-    let high : (p + 1) / k * k ≤ p = omega arith in
-    N.le_antisymm ((N.le-div_iff_mul-le pos).1 high) (omega arith)
+-- a byte is in the row of the one before, unless it begins one
+pub row_before : (p k : ℕ) → 0 < k → 0 < p % k → (p - 1) / k ≡ p / k
+row_before p k pos h =
+    let a = N.div-add-mod' p k in
+    let low : p / k * k ≤ p - 1 = omega arith in
+    let high : (p - 1) / k < p / k + 1 = (N.div-lt_iff_lt-mul pos).1 (omega (arith, N.mod-lt p pos, N.add-mul (p / k) 1 k, N.one-mul k)) in
+    N.le_antisymm (omega arith) ((N.le-div_iff_mul-le pos).1 low)
 
 -- zeros from `end` on
-pub ended : (row new b : List ℕ) (k at end from : ℕ) → length row ≡ k → at ≤ end → from ≡ min (end - at) k → new ≡ put from (replicate (k - from) 0) row
-    → ((q : ℕ) → q < k → get_or row q 0 ≡ get_or b (at + q) 0) → (q : ℕ) → q < k → get_or new q 0 ≡ fresh_byte end b (at + q)
+pub ended : (row zs b : List ℕ) (k at end from : ℕ) → length row ≡ k → at ≤ end → from ≡ min (end - at) k → zs ≡ replicate (k - from) 0
+    → ((q : ℕ) → q < k → get_or row q 0 ≡ get_or b (at + q) 0) → (q : ℕ) → q < k → get_or (put_mid from (k - from) row zs) q 0 ≡ fresh_byte end b (at + q)
 unfolding fresh_byte
-ended row new b k at end from l room ef e h q g =
-    let n : length {A = ℕ} (replicate (k - from) 0) ≡ k - from = length-replicate {A = ℕ} (k - from) 0 in
-    ap (λ (r : List ℕ). get_or r q 0) e
-    ∙ ⊎_elim
-    (λ lt. get_d_put_out (replicate (k - from) 0) row from q (inl lt) ∙ h q g ∙ pick_on _ _ _ _ (lt-ltb (at + q) end (omega arith)) refl)
-    (λ ge.
-    let back : from + (q - from) ≡ q = omega arith in
-    ap (λ (p : ℕ). get_or (put from (replicate (k - from) 0) row) p 0) (sym back)
-    ∙ get_d_put_in (replicate (k - from) 0) row from (q - from) (omega arith) (omega arith) ∙ get_or-replicate (k - from) (q - from) 0 0 (omega arith)
-    ∙ pick_off _ _ _ _ (le-ltb (at + q) end (omega arith)) refl)
+ended row zs b k at end from l room ef e h q g =
+    ⊎_elim
+    (λ lt. below lt ∙ h q g ∙ pick_on _ _ _ _ (lt-ltb (at + q) end (omega arith)) refl)
+    (λ ge. above ge ∙ pick_off _ _ _ _ (le-ltb (at + q) end (omega arith)) refl)
     (lt_or_le q from)
+  where
+    below : q < from → get_or (put_mid from (k - from) row zs) q 0 ≡ get_or row q 0
+    below lt = search (rules, places)
+
+    above : from ≤ q → get_or (put_mid from (k - from) row zs) q 0 ≡ 0
+    above ge = rw e (search (rules, places))
 
 -- one byte more of a row, from the highest down
 pub row_from : (k c i : ℕ) (b row : List ℕ) (x : ℕ) → 0 < i → i ≤ length row → ((q : ℕ) → i ≤ q → q < k → get_or row q 0 ≡ get_or b (c * k + q) 0)

@@ -1,5 +1,5 @@
 -- Document 01, "A board's step": what a board delivers in the output stage.
-use Rattle.std.specs.Prelude.{Bool, true, ◌&&◌, List, [], ◌∷◌, ℕ, eqb, length, get_or, take}
+use Rattle.std.specs.Prelude.{Option as Maybe, Some, None, Bool, true, ◌&&◌, List, [], ◌∷◌, ℕ, eqb, length, get_or, take}
 use Rattle.std.proofs.Math.Option.{Option, none, some}
 use Rattle.octets.specs.Bytes.{pick, put, same}
 use Rattle.table.specs.Table.{k_of}
@@ -8,7 +8,8 @@ use Rattle.code.specs.Block.{readable, block_message}
 use Rattle.code_encode.specs.Message.{fragment_for}
 use Rattle.code_through.specs.Through.{marks, block_through}
 use Rattle.tree.specs.Tree.{root_of}
-use Rattle.deliver.specs.declared.Delivered.{Delivered}
+use Rattle.deliver.specs.declared.Delivery.{Delivery}
+use Rattle.deliver.specs.declared.Delivery.TheVariants.{Message, Void}
 
 -- "Unequal lengths .. are void too": whether the fragments of the boards xs all have len bytes
 unfoldable pub all_of_length : ℕ → List ℕ → (ℕ → List ℕ) → Bool
@@ -38,14 +39,24 @@ result_from b root xs fragment = afresh b root (read_from b xs fragment)
 unfoldable pub result_of : Table → List ℕ → ℕ → (ℕ → List ℕ) → Option (List ℕ)
 result_of b root set fragment = result_from b root (take (k_of b) (marks 1 b.n set)) fragment
 
--- what is left: the delivery's kind (1 a message, 2 void), the message's length, the delivery buffer
+-- what is left: the delivery's kind (0 none, 1 a message, 2 void), the message's length, the delivery buffer
 pub record Left : Type 0 where
   pub kind : ℕ
   pub size : ℕ
   pub buffer : List ℕ
 
-abbrev pub left : Delivered → List ℕ → Left
-left r out = record { kind = r.kind; size = r.length; buffer = out }
+abbrev pub kind_of : Maybe Delivery → ℕ
+kind_of None = 0
+kind_of (Some (Message n)) = 1
+kind_of (Some Void) = 2
+
+abbrev pub size_of : Maybe Delivery → ℕ
+size_of None = 0
+size_of (Some (Message n)) = n
+size_of (Some Void) = 0
+
+abbrev pub left : Maybe Delivery → List ℕ → Left
+left d out = record { kind = kind_of d; size = size_of d; buffer = out }
 
 -- "Void" leaves the buffer; a message is put at its front
 unfoldable pub left_by : Option (List ℕ) → List ℕ → Left

@@ -1,6 +1,6 @@
 -- Working definitions of a delivery that has no block in memory.
 -- Assumes nothing.
-use Rattle.std.specs.Prelude.{◌≡◌, List, ℕ, suc, ◌+◌, ◌-◌, ◌*◌, ◌/◌, ◌%◌, ◌<◌, ◌≤◌, ltb, get_or}
+use Rattle.std.specs.Prelude.{◌≡◌, List, ℕ, suc, ◌+◌, ◌-◌, ◌*◌, ◌/◌, ◌%◌, ◌<◌, ◌≤◌, ltb, get_or, Option, Some, None}
 use Rattle.std.proofs.Math.Option.{none}
 use Rattle.octets.specs.Bytes.{pick, four_at}
 use Rattle.table.specs.declared.Table.{Table}
@@ -21,15 +21,18 @@ Whole area s xs len b = (m ds : List ℕ) → Master xs m → Scales xs m ds →
 unfoldable pub fresh_byte : ℕ → List ℕ → ℕ → ℕ
 fresh_byte end b p = pick (ltb p end) (get_or b p 0) 0
 
--- the block `given` of len rows of k bytes is read: r is its message's length and l the last row of the block that is encoded afresh; or r is above
--- 16384, and nothing can be delivered
-pub record Readied (b : Table) (k len : ℕ) (given : List ℕ) (r : ℕ) (l : List ℕ) : Type 0 where
-  pub unread : 16384 < r → (root : List ℕ) → afresh b root (block_read b given) ≡ none
-  pub size : r ≤ 16384 → r ≡ four_at given 0
-  pub enough : r ≤ 16384 → 4 ≤ len * k
-  pub fits : r ≤ 16384 → r ≤ b.longest
-  pub count : r ≤ 16384 → rows k r ≡ len
-  pub last : r ≤ 16384 → (q : ℕ) → q < k → get_or l q 0 ≡ fresh_byte (4 + r) given ((len - 1) * k + q)
+-- the block `given` of len rows of k bytes is read: its message has n bytes, and l is the last row of the block that is encoded afresh
+pub record ReadAs (b : Table) (k len : ℕ) (given : List ℕ) (n : ℕ) (l : List ℕ) : Type 0 where
+  pub size : n ≡ four_at given 0
+  pub enough : 4 ≤ len * k
+  pub fits : n ≤ b.longest
+  pub count : rows k n ≡ len
+  pub last : (q : ℕ) → q < k → get_or l q 0 ≡ fresh_byte (4 + n) given ((len - 1) * k + q)
+
+-- what reading the block `given` answers: its message's length, or none, and then nothing can be delivered
+abbrev pub Readied : Table → ℕ → ℕ → List ℕ → Option ℕ → List ℕ → Type 0
+Readied b k len given (Some n) l = ReadAs b k len given n l
+Readied b k len given None l = (root : List ℕ) → afresh b root (block_read b given) ≡ none
 
 -- of the message of n bytes in b, in rows of k bytes, the columns from i on are written, and column i - 1 as far as row c; nothing after it
 pub record Copied (b : List ℕ) (n k i c : ℕ) (old new : List ℕ) : Type 0 where

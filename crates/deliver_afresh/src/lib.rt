@@ -4,49 +4,46 @@
 
 ghost use Rattle.std.specs.Prelude.{◌≡◌, List, ◌∷◌, ℕ, suc, ◌+◌, ◌-◌, ◌*◌, ◌/◌, ◌<◌, ◌≤◌, length, get_or};
 ghost use Rattle.octets.specs.Bytes.{part, put};
-ghost use Rattle.code_sum.specs.Sums.{InArea};
 ghost use Rattle.code_sum.specs.Sums.{weighed};
 ghost use Rattle.sha256.specs.Sha256.{pad, block_at, sha256};
 ghost use Rattle.tree.specs.Tree.{leaf_hash, root_of};
 ghost use Rattle.deliver_afresh.specs.Working.{Ready, Made, Leaf, Anew};
+
+// The kept fragments of the boards `points`, which lie in an area in rooms of s bytes. (Ready's scales are any list as long as the points.)
+#[derive(Clone, Copy)]
+pub struct Fragments<'a> {
+    pub area: &'a [u8],
+    pub s: usize,
+    pub points: &'a [u8],
+    ghost ready: { Ready (length area.now) s points.now points.now },
+    ghost bytes: { ((i : ℕ) → get_or area.now i 0 < 256) × ((i : ℕ) → get_or points.now i 0 < 256) },
+}
 
 // 64 bytes moved up by one place, with a zero before them.
 fn move_up(buffer: &mut [u8])
     requires { length buffer.old ≡ 64 }
     ensures { (get_or buffer.new 0 0 ≡ 0) × ((i : ℕ) → i < 63 → get_or buffer.new (i + 1) 0 ≡ get_or buffer.old i 0) }
 {
-    let mut i = 63;
-    while 0 < i {
-        buffer[i] = buffer[i - 1];
-        i -= 1;
-    }
+    buffer.copy_within(..63, 1);
     buffer[0] = 0;
 }
 
 // Of a zero and then a fragment, 64 bytes from `at` on: those in the rows before the last.
-fn fill_rows(
-    area: &[u8],
-    s: usize,
-    points: &[u8],
-    ws: &[u8],
-    len: usize,
-    at: usize,
-    buffer: &mut [u8],
-)
-    requires { InArea (length area.now) s points.now × (s ≤ 16388) × (0 < len) × (len ≤ s) × (length ws.now ≡ length points.now)
+fn fill_rows(kept: &Fragments<'_>, ws: &[u8], len: usize, at: usize, buffer: &mut [u8])
+    requires { (0 < len) × (len ≤ kept.now.s) × (length ws.now ≡ length kept.now.points.now)
         × (length buffer.old ≡ 64) }
     ensures { (at ≡ 0 → get_or buffer.new 0 0 ≡ 0) × ((i : ℕ) → i < 64 → 0 < at + i → at + i < len
-        → get_or buffer.new i 0 ≡ weighed area.now s points.now ws.now (at + i - 1) (length points.now)) }
+        → get_or buffer.new i 0 ≡ weighed kept.now.area.now kept.now.s kept.now.points.now ws.now (at + i - 1) (length kept.now.points.now)) }
 {
     if at == 0 {
-        let n = octets::least(len - 1, 63);
-        code_sum::combine(area, s, points, ws, 0, n, buffer);
+        let n = (len - 1).min(63);
+        code_sum::combine(kept.area, kept.s, kept.points, ws, 0, n, buffer);
         move_up(buffer);
         return;
     }
     if at < len {
-        let n = octets::least(len - at, 64);
-        code_sum::combine(area, s, points, ws, at - 1, n, buffer);
+        let n = (len - at).min(64);
+        code_sum::combine(kept.area, kept.s, kept.points, ws, at - 1, n, buffer);
     }
 }
 
@@ -71,39 +68,25 @@ fn fill_end(buffer: &mut [u8], at: usize, len: usize, v: u8)
         → (at + i < len → get_or buffer.new i 0 ≡ get_or buffer.old i 0)
         × (len ≤ at + i → get_or buffer.new i 0 ≡ get_or (pad (0 ∷ f)) (at + i) 0) }
 {
-    let mut i = 0;
-    while i < 64 {
-        let x = end_byte(buffer[i], at + i, len, v);
-        buffer[i] = x;
-        i += 1;
+    for i in 0..64 {
+        buffer[i] = end_byte(buffer[i], at + i, len, v);
     }
 }
 
 // Block j of a zero and then a fragment, padded. The fragment is the kept bytes by the weights ws, and v in the last row.
-fn fill(
-    area: &[u8],
-    s: usize,
-    points: &[u8],
-    ws: &[u8],
-    v: u8,
-    len: usize,
-    j: usize,
-    buffer: &mut [u8],
-)
-    requires { InArea (length area.now) s points.now × (s ≤ 16388) × (0 < len) × (len ≤ s) × (length ws.now ≡ length points.now)
+fn fill(kept: &Fragments<'_>, ws: &[u8], v: u8, len: usize, j: usize, buffer: &mut [u8])
+    requires { (0 < len) × (len ≤ kept.now.s) × (length ws.now ≡ length kept.now.points.now)
         × (length buffer.old ≡ 64) × (64 * j ≤ (len + 9) / 64 * 64) }
-    ensures { (f : List ℕ) → Leaf area.now s points.now ws.now v len f → buffer.new ≡ block_at j (pad (0 ∷ f)) }
+    ensures { (f : List ℕ) → Leaf kept.now.area.now kept.now.s kept.now.points.now ws.now v len f → buffer.new ≡ block_at j (pad (0 ∷ f)) }
 {
     let at = 64 * j;
-    fill_rows(area, s, points, ws, len, at, buffer);
+    fill_rows(kept, ws, len, at, buffer);
     fill_end(buffer, at, len, v);
 }
 
 // The leaf of a fragment, put on the stack. buffer is room to work in.
 fn fresh_leaf(
-    area: &[u8],
-    s: usize,
-    points: &[u8],
+    kept: &Fragments<'_>,
     ws: &[u8],
     v: u8,
     len: usize,
@@ -111,18 +94,16 @@ fn fresh_leaf(
     stack: &mut [u8],
     at: usize,
 )
-    requires { InArea (length area.now) s points.now × (s ≤ 16388) × (0 < len) × (len ≤ s) × (length ws.now ≡ length points.now)
+    requires { (0 < len) × (len ≤ kept.now.s) × (length ws.now ≡ length kept.now.points.now)
         × (length buffer.old ≡ 64) × (at + 32 ≤ length stack.old) }
-    ensures { (f : List ℕ) → Leaf area.now s points.now ws.now v len f
+    ensures { (f : List ℕ) → Leaf kept.now.area.now kept.now.s kept.now.points.now ws.now v len f
         → stack.new ≡ put at (leaf_hash sha256 f) stack.old }
 {
     let count = (len + 73) / 64;
     let mut h = sha256::begun();
-    let mut j = 0;
-    while j < count {
-        fill(area, s, points, ws, v, len, j, buffer);
+    for j in 0..count {
+        fill(kept, ws, v, len, j, buffer);
         sha256_strings::take_block(&mut h, buffer);
-        j += 1;
     }
     sha256_strings::put_digest(&h, stack, at);
 }
@@ -130,9 +111,7 @@ fn fresh_leaf(
 // The root of the n fragments of the block that is encoded afresh, into the first 32 bytes of the stack: `row` is its last row. ws and buffer are
 // room to work in.
 pub fn fresh_root(
-    area: &[u8],
-    s: usize,
-    points: &[u8],
+    kept: &Fragments<'_>,
     ds: &[u8],
     row: &[u8],
     len: usize,
@@ -141,28 +120,16 @@ pub fn fresh_root(
     buffer: &mut [u8],
     stack: &mut [u8],
 )
-    requires { Ready (length area.now) s points.now ds.now × (length ws.old ≡ length points.now) × (length buffer.old ≡ 64)
-        × (0 < len) × (len ≤ s) × (0 < n) × (n ≤ 64) × (224 ≤ length stack.old) }
-    ensures { (m b : List ℕ) (fs : ℕ → List ℕ) → Made area.now s points.now m ds.now len b
-        → ((i : ℕ) → i < n → Anew (length points.now) len b row.now (suc i) (fs i)) → part 0 32 stack.new ≡ root_of n fs }
+    requires { (length ds.now ≡ length kept.now.points.now) × (length ws.old ≡ length kept.now.points.now) × (length buffer.old ≡ 64)
+        × (0 < len) × (len ≤ kept.now.s) × (0 < n) × (n ≤ 64) × (224 ≤ length stack.old) }
+    ensures { (m b : List ℕ) (fs : ℕ → List ℕ) → Made kept.now.area.now kept.now.s kept.now.points.now m ds.now len b
+        → ((i : ℕ) → i < n → Anew (length kept.now.points.now) len b row.now (suc i) (fs i)) → part 0 32 stack.new ≡ root_of n fs }
 {
-    let mut i = 0;
-    while i < n {
+    for i in 0..n {
         let z = (i + 1) as u8;
-        code_through::weights_at(points, ds, z, ws);
+        code_through::weights_at(kept.points, ds, z, ws);
         let v = code_through::value_at(row, z);
-        fresh_leaf(
-            area,
-            s,
-            points,
-            ws,
-            v,
-            len,
-            buffer,
-            stack,
-            tree_stack::top_of(i),
-        );
+        fresh_leaf(kept, ws, v, len, buffer, stack, tree_stack::top_of(i));
         tree_stack::raise(stack, i, n);
-        i += 1;
     }
 }

@@ -2,23 +2,25 @@
 // and of its fragments' bytes, is a weighed sum of the kept bytes of its row.
 #![tactic(auto)]
 
-ghost use Rattle.std.specs.Prelude.{◌≡◌, true, List, ℕ, suc, ◌+◌, ◌-◌, ◌*◌, ◌/◌, ◌^◌, ◌<◌, ◌≤◌, length, get_or};
+ghost use Rattle.std.specs.Prelude.{◌≡◌, true, List, ℕ, suc, ◌+◌, ◌-◌, ◌*◌, ◌/◌, ◌^◌, ◌<◌, ◌≤◌, length, get_or, Some};
 ghost use Rattle.std.specs.Int.Count.{ones};
 ghost use Rattle.octets.specs.Bytes.{two_at, part, put};
 ghost use Rattle.octets.specs.Sets.{has};
-ghost use Rattle.table.specs.Table.{limits, k_of, s_max};
+ghost use Rattle.table.specs.Table.{k_of, s_max};
 ghost use Rattle.code.specs.Code.{Apart};
 ghost use Rattle.code_sum.specs.Sums.{InArea, weighed};
 ghost use Rattle.code_through.specs.Through.{block_through};
-ghost use Rattle.deliver_afresh.specs.Working.{Ready, Made};
+ghost use Rattle.deliver_afresh.specs.Working.{Made};
 ghost use Rattle.deliver.specs.Delivered.{all_of_length, block_read, afresh, result_from, result_of, left, left_by};
 ghost use Rattle.deliver.specs.Working.{Whole, Copied};
 
-use deliver::{Delivered, begin, void};
-use octets::{two_at, wide};
-use table::Table;
+use deliver::{Delivery, begin};
+use deliver_afresh::Fragments;
+use octets::two_at;
+use table::InLimits;
 
 // Byte p of the block, x: into out, if it is the message's, of `size` bytes.
+// Stays: size beside out, and steps by hand; with a slice of the message and step_by the delivering step took 1,584 bytes (measured; limit 1,560).
 fn copy_byte(out: &mut [u8], p: usize, size: usize, x: u8)
     requires { (size ≤ 16384) × (size ≤ length out.old) }
     ensures { (b old : List ℕ) (k q c : ℕ) → p ≡ c * k + q → x ≡ get_or b (c * k + q) 0 → Copied b size k (suc q) c old out.old
@@ -33,24 +35,20 @@ fn copy_byte(out: &mut [u8], p: usize, size: usize, x: u8)
     out[p - 4] = x;
 }
 
-// The bytes of src, n of them, which are those of column q from row c on: into out, as far as they are the message's, of `size` bytes.
-fn copy_column(src: &[u8], n: usize, out: &mut [u8], k: usize, q: usize, c: usize, size: usize)
-    requires { (n ≤ length src.now) × (q < k) × (k ≤ 64) × (c + n ≤ 16388) × (size ≤ 16384) × (size ≤ length out.old) }
-    ensures { (b old : List ℕ) → ((i : ℕ) → i < n → get_or src.now i 0 ≡ get_or b ((c + i) * k + q) 0)
-        → Copied b size k (suc q) c old out.old → Copied b size k (suc q) (c + n) old out.new }
+// The bytes of src, which are those of column q from row c on: into out, as far as they are the message's, of `size` bytes.
+fn copy_column(src: &[u8], out: &mut [u8], k: usize, q: usize, c: usize, size: usize)
+    requires { (q < k) × (k ≤ 64) × (c + length src.now ≤ 16388) × (size ≤ 16384) × (size ≤ length out.old) }
+    ensures { (b old : List ℕ) → ((i : ℕ) → i < length src.now → get_or src.now i 0 ≡ get_or b ((c + i) * k + q) 0)
+        → Copied b size k (suc q) c old out.old → Copied b size k (suc q) (c + length src.now) old out.new }
 {
-    let mut i = 0;
-    while i < n {
+    for i in 0..src.len() {
         copy_byte(out, (c + i) * k + q, size, src[i]);
-        i += 1;
     }
 }
 
 // Column q of the message. ws has the weights of coefficient q; sum is room to work in.
 fn write_column(
-    area: &[u8],
-    s: usize,
-    points: &[u8],
+    kept: &Fragments<'_>,
     ws: &[u8],
     len: usize,
     q: usize,
@@ -58,27 +56,26 @@ fn write_column(
     out: &mut [u8],
     sum: &mut [u8],
 )
-    requires { InArea (length area.now) s points.now × (s ≤ 16388) × (len ≤ s) × (length ws.now ≡ length points.now) × (q < length points.now)
-        × (length points.now ≤ 64) × (size ≤ 16384) × (size ≤ length out.old) × (length sum.old ≡ 64) }
+    requires { (len ≤ kept.now.s) × (length ws.now ≡ length kept.now.points.now) × (q < length kept.now.points.now)
+        × (size ≤ 16384) × (size ≤ length out.old) × (length sum.old ≡ 64) }
     ensures { (b old : List ℕ)
-        → ((c : ℕ) → c < len → weighed area.now s points.now ws.now c (length points.now) ≡ get_or b (c * length points.now + q) 0)
-        → Copied b size (length points.now) (suc q) 0 old out.old → Copied b size (length points.now) (suc q) len old out.new }
+        → ((c : ℕ) → c < len → weighed kept.now.area.now kept.now.s kept.now.points.now ws.now c (length kept.now.points.now) ≡ get_or b (c * length kept.now.points.now + q) 0)
+        → Copied b size (length kept.now.points.now) (suc q) 0 old out.old → Copied b size (length kept.now.points.now) (suc q) len old out.new }
 {
-    let k = points.len();
+    let k = kept.points.len();
+    // Stays: as at copy_byte, measured.
     let mut c = 0;
     while c < len {
-        let n = octets::least(len - c, 64);
-        code_sum::combine(area, s, points, ws, c, n, sum);
-        copy_column(sum, n, out, k, q, c, size);
+        let n = (len - c).min(64);
+        code_sum::combine(kept.area, kept.s, kept.points, ws, c, n, sum);
+        copy_column(&sum[..n], out, k, q, c, size);
         c += n;
     }
 }
 
 // The message, of `size` bytes, from the highest column down. ws and sum are room to work in.
 fn write_message(
-    area: &[u8],
-    s: usize,
-    points: &[u8],
+    kept: &Fragments<'_>,
     m: &[u8],
     ds: &[u8],
     len: usize,
@@ -87,24 +84,20 @@ fn write_message(
     ws: &mut [u8],
     sum: &mut [u8],
 )
-    requires { Ready (length area.now) s points.now ds.now × (length ws.old ≡ length points.now) × (length sum.old ≡ 64)
-        × (len ≤ s) × (size ≤ 16384) × (size ≤ length out.old) × (4 + size ≤ len * length points.now) × (length m.now ≡ suc (length points.now)) }
-    ensures { (b : List ℕ) → Made area.now s points.now m.now ds.now len b → out.new ≡ put 0 (part 4 size b) out.old }
+    requires { (length ds.now ≡ length kept.now.points.now) × (length ws.old ≡ length kept.now.points.now) × (length sum.old ≡ 64)
+        × (len ≤ kept.now.s) × (size ≤ 16384) × (size ≤ length out.old) × (4 + size ≤ len * length kept.now.points.now) × (length m.now ≡ suc (length kept.now.points.now)) }
+    ensures { (b : List ℕ) → Made kept.now.area.now kept.now.s kept.now.points.now m.now ds.now len b → out.new ≡ put 0 (part 4 size b) out.old }
 {
-    let mut i = points.len();
-    octets::clear_at(ws, 0, i);
-    while 0 < i {
-        code_through::advance(points, ds, m[i], ws);
-        i -= 1;
-        write_column(area, s, points, ws, len, i, size, out, sum);
+    ws.fill(0);
+    for i in (0..kept.points.len()).rev() {
+        code_through::advance(kept.points, ds, m[i + 1], ws);
+        write_column(kept, ws, len, i, size, out, sum);
     }
 }
 
 // What is worked out after the fresh root: the message, of `size` bytes. m, ds, ws and sum are room to work in.
 fn finish_in(
-    area: &[u8],
-    s: usize,
-    points: &[u8],
+    kept: &Fragments<'_>,
     len: usize,
     size: usize,
     out: &mut [u8],
@@ -113,20 +106,18 @@ fn finish_in(
     ws: &mut [u8],
     sum: &mut [u8],
 )
-    requires { Ready (length area.now) s points.now ds.old × (length ws.old ≡ length points.now) × (length sum.old ≡ 64)
-        × (len ≤ s) × (size ≤ 16384) × (size ≤ length out.old) × (4 + size ≤ len * length points.now) × (length m.old ≡ suc (length points.now))
-        × Apart points.now }
-    ensures { (given : List ℕ) → Whole area.now s points.now len given → out.new ≡ put 0 (part 4 size given) out.old }
+    requires { (length ds.old ≡ length kept.now.points.now) × (length ws.old ≡ length kept.now.points.now) × (length sum.old ≡ 64)
+        × (len ≤ kept.now.s) × (size ≤ 16384) × (size ≤ length out.old) × (4 + size ≤ len * length kept.now.points.now) × (length m.old ≡ suc (length kept.now.points.now))
+        × Apart kept.now.points.now }
+    ensures { (given : List ℕ) → Whole kept.now.area.now kept.now.s kept.now.points.now len given → out.new ≡ put 0 (part 4 size given) out.old }
 {
-    code_through::prepare(points, m, ws, ds);
-    write_message(area, s, points, m, ds, len, size, out, ws, sum);
+    code_through::prepare(kept.points, m, ws, ds);
+    write_message(kept, m, ds, len, size, out, ws, sum);
 }
 
 // The same, in the front of `room`.
 fn finish(
-    area: &[u8],
-    s: usize,
-    points: &[u8],
+    kept: &Fragments<'_>,
     len: usize,
     size: usize,
     out: &mut [u8],
@@ -135,23 +126,12 @@ fn finish(
     sum: &mut [u8],
     room: &mut [u8],
 )
-    requires { Ready (length area.now) s points.now ds.old × (length ws.old ≡ length points.now) × (length sum.old ≡ 64)
-        × (len ≤ s) × (size ≤ 16384) × (size ≤ length out.old) × (4 + size ≤ len * length points.now) × (224 ≤ length room.old) × Apart points.now }
-    ensures { (given : List ℕ) → Whole area.now s points.now len given → out.new ≡ put 0 (part 4 size given) out.old }
+    requires { (length ds.old ≡ length kept.now.points.now) × (length ws.old ≡ length kept.now.points.now) × (length sum.old ≡ 64)
+        × (len ≤ kept.now.s) × (size ≤ 16384) × (size ≤ length out.old) × (4 + size ≤ len * length kept.now.points.now) × (224 ≤ length room.old) × Apart kept.now.points.now }
+    ensures { (given : List ℕ) → Whole kept.now.area.now kept.now.s kept.now.points.now len given → out.new ≡ put 0 (part 4 size given) out.old }
 {
-    let top = points.len() + 1;
-    finish_in(
-        area,
-        s,
-        points,
-        len,
-        size,
-        out,
-        &mut room[..top],
-        ds,
-        ws,
-        sum,
-    );
+    let k = kept.points.len();
+    finish_in(kept, len, size, out, &mut room[..k + 1], ds, ws, sum);
 }
 
 // The length given for board x.
@@ -159,7 +139,7 @@ fn length_of(lengths: &[u8], x: u8) -> usize
     requires { (0 < x) × (x ≤ 64) × (2 * x ≤ length lengths.now) }
     ensures { result ≡ two_at lengths.now (2 * (x - 1)) }
 {
-    two_at(lengths, 2 * (wide(x) - 1))
+    two_at(lengths, 2 * (usize::from(x) - 1))
 }
 
 // Whether the lengths given for the points are all len.
@@ -169,12 +149,10 @@ fn all_of_length(lengths: &[u8], points: &[u8], len: usize) -> bool
         → length (fragment (get_or points.now i 0)) ≡ two_at lengths.now (2 * (get_or points.now i 0 - 1)))
         → result ≡ all_of_length len points.now fragment }
 {
-    let mut i = 0;
-    while i < points.len() {
-        if length_of(lengths, points[i]) != len {
+    for &x in points {
+        if length_of(lengths, x) != len {
             return false;
         }
-        i += 1;
     }
     true
 }
@@ -182,10 +160,8 @@ fn all_of_length(lengths: &[u8], points: &[u8], len: usize) -> bool
 // The message that the fragments at the points give, all of len bytes, if it has the root; else void. ds, row, ws, sum and room are room to work
 // in: the product of all X - x is in `room` before and after the fresh root, whose hashes wait there.
 fn deliver_in(
-    b: Table,
-    area: &[u8],
-    s: usize,
-    points: &[u8],
+    b: InLimits,
+    kept: &Fragments<'_>,
     len: usize,
     root: &[u8],
     out: &mut [u8],
@@ -194,51 +170,54 @@ fn deliver_in(
     ws: &mut [u8],
     sum: &mut [u8],
     room: &mut [u8],
-) -> Delivered
-    requires { (limits b ≡ true) × (length points.now ≡ k_of b) × Ready (length area.now) s points.now ds.old × (0 < len) × (len ≤ s)
-        × (length root.now ≡ 32) × (b.longest ≤ length out.old) × (length row.old ≡ length points.now) × (length ws.old ≡ length points.now)
-        × (length sum.old ≡ 64) × (224 ≤ length room.old) × Apart points.now }
-    ensures { (fragment : ℕ → List ℕ) → ((i : ℕ) → i < length points.now
-        → fragment (get_or points.now i 0) ≡ part ((get_or points.now i 0 - 1) * s) len area.now)
-        → left result out.new ≡ left_by (afresh b root.now (block_read b (block_through len points.now fragment))) out.old }
+) -> Delivery
+    requires { (length kept.now.points.now ≡ k_of b.table) × (length ds.old ≡ length kept.now.points.now) × (0 < len) × (len ≤ kept.now.s)
+        × (length root.now ≡ 32) × (b.table.longest ≤ length out.old) × (length row.old ≡ length kept.now.points.now) × (length ws.old ≡ length kept.now.points.now)
+        × (length sum.old ≡ 64) × (224 ≤ length room.old) × Apart kept.now.points.now }
+    ensures { (fragment : ℕ → List ℕ) → ((i : ℕ) → i < length kept.now.points.now
+        → fragment (get_or kept.now.points.now i 0) ≡ part ((get_or kept.now.points.now i 0 - 1) * kept.now.s) len kept.now.area.now)
+        → left (Some result) out.new ≡ left_by (afresh b.table root.now (block_read b.table (block_through len kept.now.points.now fragment))) out.old }
 {
-    let size = begin(b, area, s, points, len, ds, row, ws, sum, room);
-    if 16384 < size {
-        return void();
+    let Some(size) = begin(b, kept, len, ds, row, ws, sum, room) else {
+        return Delivery::Void;
+    };
+    deliver_afresh::fresh_root(kept, ds, row, len, b.table.n, ws, sum, room);
+    if &room[..32] != root {
+        return Delivery::Void;
     }
-    deliver_afresh::fresh_root(area, s, points, ds, row, len, b.n, ws, sum, room);
-    if !octets::same_at(room, 0, root, 0, 32) {
-        return void();
-    }
-    finish(area, s, points, len, size, out, ds, ws, sum, room);
-    Delivered {
-        kind: 1,
+    finish(kept, len, size, out, ds, ws, sum, room);
+    Delivery::Message {
         length: size as u32,
     }
 }
 
 // What the k fragments at the points give, in rooms of s_max bytes.
 fn deliver_from(
-    b: Table,
+    b: InLimits,
     lengths: &[u8],
     area: &[u8],
     s: usize,
     points: &[u8],
     root: &[u8],
     out: &mut [u8],
-) -> Delivered
-    requires { (limits b ≡ true) × (s ≡ s_max b) × (length points.now ≡ k_of b) × InArea (length lengths.now) 2 points.now
+) -> Delivery
+    requires { (s ≡ s_max b.table) × (length points.now ≡ k_of b.table) × InArea (length lengths.now) 2 points.now
         × InArea (length area.now) s points.now × Apart points.now
         × ((i : ℕ) → i < length points.now → (1 ≤ two_at lengths.now (2 * (get_or points.now i 0 - 1))) × (two_at lengths.now (2 * (get_or points.now i 0 - 1)) ≤ s))
-        × (length root.now ≡ 32) × (b.longest ≤ length out.old) }
-    ensures { left result out.new ≡ left_by (result_from b root.now points.now
+        × (length root.now ≡ 32) × (b.table.longest ≤ length out.old) }
+    ensures { left (Some result) out.new ≡ left_by (result_from b.table root.now points.now
         (λ i. part ((i - 1) * s) (two_at lengths.now (2 * (i - 1))) area.now)) out.old }
 {
     let k = points.len();
     let len = length_of(lengths, points[0]);
     if !all_of_length(lengths, points, len) {
-        return void();
+        return Delivery::Void;
     }
+    let kept = Fragments {
+        area: area,
+        s: s,
+        points: points,
+    };
     let mut ds = [0u8; 64];
     let mut row = [0u8; 64];
     let mut ws = [0u8; 64];
@@ -246,9 +225,7 @@ fn deliver_from(
     let mut room = [0u8; 224];
     deliver_in(
         b,
-        area,
-        s,
-        points,
+        &kept,
         len,
         root,
         out,
@@ -263,22 +240,22 @@ fn deliver_from(
 // What a board delivers once k usable echoes name the root: the message that the k lowest-numbered fragments of the set give, into out, if
 // encoding it afresh gives the root again; else void, and out is left as it was. Board i is bit i - 1 of the set.
 pub fn deliver(
-    b: Table,
+    b: InLimits,
     lengths: &[u8],
     area: &[u8],
     set: u64,
     root: &[u8],
     out: &mut [u8],
-) -> Delivered
-    requires { (limits b ≡ true) × (2 * b.n ≤ length lengths.now) × (b.n * s_max b ≤ length area.now) × (set / 2 ^ b.n ≡ 0) × (k_of b ≤ ones set)
-        × ((i : ℕ) → i < b.n → has set i ≡ true → (1 ≤ two_at lengths.now (2 * i)) × (two_at lengths.now (2 * i) ≤ s_max b))
-        × (length root.now ≡ 32) × (b.longest ≤ length out.old) }
-    ensures { left result out.new ≡ left_by (result_of b root.now set
-        (λ i. part ((i - 1) * s_max b) (two_at lengths.now (2 * (i - 1))) area.now)) out.old }
+) -> Delivery
+    requires { (2 * b.table.n ≤ length lengths.now) × (b.table.n * s_max b.table ≤ length area.now) × (set / 2 ^ b.table.n ≡ 0) × (k_of b.table ≤ ones set)
+        × ((i : ℕ) → i < b.table.n → has set i ≡ true → (1 ≤ two_at lengths.now (2 * i)) × (two_at lengths.now (2 * i) ≤ s_max b.table))
+        × (length root.now ≡ 32) × (b.table.longest ≤ length out.old) }
+    ensures { left (Some result) out.new ≡ left_by (result_of b.table root.now set
+        (λ i. part ((i - 1) * s_max b.table) (two_at lengths.now (2 * (i - 1))) area.now)) out.old }
 {
-    let k = table::fragments_needed(b);
-    let s = table::fragment_most(b);
+    let k = b.fragments_needed();
+    let s = b.fragment_most();
     let mut list = [0u8; 64];
-    code_through::members(set, b.n, &mut list);
+    code_through::members(set, b.table.n, &mut list);
     deliver_from(b, lengths, area, s, &list[..k], root, out)
 }

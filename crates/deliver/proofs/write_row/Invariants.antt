@@ -9,7 +9,4 @@ use Rattle.deliver_afresh.specs.Working.{Made}
 use Rattle.deliver.proofs.write_row.Given as goal
 
 abbrev pub invariant-loop-i : goal.invariant-loop-i
-invariant-loop-i l = (l.i ≤ length l.points) × (length l.row ≡ length l.points) × (length l.ts ≡ length l.points) × Weights l.points l.m l.es (suc l.i) l.ts × ((len : ℕ) (b : List ℕ) → Made l.area l.s l.points l.m l.ds len b → l.c < len → (q : ℕ) → l.i ≤ q → q < length l.points → get_or l.row q 0 ≡ get_or b (l.c * length l.points + q) 0)
-
-abbrev pub decreases-loop-i : goal.decreases-loop-i
-decreases-loop-i l = l.i
+invariant-loop-i l = (l.i ≤ length l.kept.points.now) × (length l.row ≡ length l.kept.points.now) × (length l.ts ≡ length l.kept.points.now) × Weights l.kept.points.now l.m l.es (suc l.i) l.ts × ((len : ℕ) (b : List ℕ) → Made l.kept.area.now l.kept.s l.kept.points.now l.m l.ds len b → l.c < len → (q : ℕ) → l.i ≤ q → q < length l.kept.points.now → get_or l.row q 0 ≡ get_or b (l.c * length l.kept.points.now + q) 0)

@@ -2,9 +2,9 @@
 -- Assumes nothing.
 use mathlib.Core.Path.{◌≡◌, sym, ap, ◌∙◌}
 use mathlib.Core.List.{◌∷◌}
-use Prim.Native.Nat.{ℕ, ◌+◌}
+use Prim.Native.Nat.{ℕ}
 use native.Mathlib.Omega.{arith}
-use lib.ListN.{length, get_or}
+use lib.ListN.{get_or}
 use Rattle.sha256.specs.Sha256.{pad}
 use Rattle.deliver_afresh.proofs.Hashing.{in_string}
 use Rattle.deliver_afresh.proofs.end_byte.Goals as goal
@@ -17,6 +17,3 @@ returns-then-i-len-2 c =
       λ h. let z : a.i ≡ a.len = omega arith in sym (ap (λ (i : ℕ). get_or (pad (0 ∷ f)) i 0) z ∙ in_string f
           a.len some (omega arith) ∙ g),
     )
-
-pub returns : goal.returns
-returns c = λ f e g some. ((λ h. absurd (omega arith)), λ h. let z : length (0 ∷ f) ≡ c.args.len + 1 = omega arith in c.pad_byte.ensures (0 ∷ f) z)

@@ -11,6 +11,3 @@ use Rattle.deliver_afresh.proofs.fill_end.Given as goal
 abbrev pub invariant-loop-i : goal.invariant-loop-i
 invariant-loop-i l = (l.i ≤ 64) × (length l.buffer ≡ 64) × ((f : List ℕ) → length f ≡ l.len → get_or f (l.len - 1) 0 ≡ l.v → 0 < l.len → Walked
     (Ended l.at l.len l.initial.buffer f) l.initial.buffer l.i l.buffer)
-
-abbrev pub decreases-loop-i : goal.decreases-loop-i
-decreases-loop-i l = 64 - l.i

@@ -12,28 +12,6 @@ pub loop-i-init : goal.loop-i-init
 loop-i-init c =
     let args = c.args in let p = c.requires in (omega arith, p.1, p.2, refl, λ m b fs M a. risen_first args.n fs args.stack.now p.5)
 
-pub weights_at-requires : goal.weights_at-requires
-weights_at-requires c = (c.requires.0.scales, c.loop-i.invariant.1)
-
-pub top_of-requires : goal.top_of-requires
-top_of-requires c = omega (arith, c.requires.6)
-
-pub fresh_leaf-requires : goal.fresh_leaf-requires
-fresh_leaf-requires c =
-    let l = c.loop-i in let p = c.requires in let r = p.0 in
-    (r.boards, r.short, p.3, p.4, c.weights_at.auto.ws ∙ l.invariant.1, l.invariant.2, omega (arith, c.top_of.ensures.1, l.invariant.3, p.7))
-
-pub raise-requires : goal.raise-requires
-raise-requires c =
-    let p = c.requires in (
-      c.loop-i-test.true,
-      p.6,
-      omega (arith, c.fresh_leaf.auto.stack, c.loop-i.invariant.3, p.7),
-    )
-
-pub loop-i-smaller : goal.loop-i-smaller
-loop-i-smaller c = omega (arith, c.loop-i-test.true)
-
 pub loop-i-preserved : goal.loop-i-preserved
 loop-i-preserved c =
     let a2 = c.args in let p = c.requires in
@@ -46,19 +24,10 @@ loop-i-preserved c =
       fresh_leaf.auto.buffer ∙ l.invariant.2,
       c.raise.auto.stack ∙ (fresh_leaf.auto.stack ∙ l.invariant.3),
       λ m b fs M f.
-          let e = fresh_leaf.ensures (fs l.i) (anew_leaf a.area.now a.s a.points.now m a.ds.now a.len b a.row.now weights_at.new.ws (l.i + 1) value_at.result (fs l.i) M (subst (λ (z : ℕ). Anew (length a.points.now) a.len b a.row.now z (fs l.i)) (sym z) (f l.i t)) (weights_at.ensures m M.product M.scales) value_at.ensures) in
+          let e = fresh_leaf.ensures (fs l.i) (anew_leaf a.kept.now.area.now a.kept.now.s a.kept.now.points.now m a.ds.now a.len b a.row.now weights_at.new.ws (l.i + 1) value_at.result (fs l.i) M (subst (λ (z : ℕ). Anew (length a.kept.now.points.now) a.len b a.row.now z (fs l.i)) (sym z) (f l.i t)) (weights_at.ensures m M.product M.scales) value_at.ensures) in
           let w = leaf_on a.n fs l.i top_of.result l.stack fresh_leaf.new.stack (omega (arith, t, p.6)) (omega (arith, l.invariant.3, p.7)) top_of.ensures.0 e ((l.invariant.4 m b fs M f).waits t) in
           risen_next a.n fs l.i _ (c.raise.ensures fs w.0 w.1),
     )
-
-pub shape_of-ws : goal.shape_of-ws
-shape_of-ws c = c.loop-i.invariant.1 ∙ sym c.requires.1
-
-pub shape_of-buffer : goal.shape_of-buffer
-shape_of-buffer c = c.loop-i.invariant.2 ∙ sym c.requires.2
-
-pub shape_of-stack : goal.shape_of-stack
-shape_of-stack c = c.loop-i.invariant.3
 
 pub returns : goal.returns
 returns c = λ m b fs M f. (c.loop-i.invariant.4 m b fs M f).done (omega arith)

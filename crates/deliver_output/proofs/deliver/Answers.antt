@@ -4,7 +4,6 @@ use mathlib.Core.Path.{sym, ap, ◌∙◌, subst}
 use mathlib.Core.List.{List}
 use Prim.Native.Nat.{ℕ, ◌-◌, ◌*◌}
 use lib.ListN.{take}
-use lib.Seq.{length-take-le}
 use Rattle.octets.specs.Bytes.{two_at, part}
 use Rattle.table.specs.Table.{k_of, s_max}
 use Rattle.table.proofs.Within.{within}
@@ -14,27 +13,12 @@ use Rattle.deliver.proofs.Delivering.{Kept, kept_first, lowest}
 use native.Mathlib.Omega.{arith}
 use Rattle.deliver_output.proofs.deliver.Goals as goal
 
-pub fragments_needed-k-requires : goal.fragments_needed-k-requires
-fragments_needed-k-requires c = c.requires.0
-
-pub fragment_most-s-requires : goal.fragment_most-s-requires
-fragment_most-s-requires c = c.requires.0
-
 pub members-requires : goal.members-requires
 members-requires c =
     let a = c.args in
     let p = c.requires in
-    let w = within a.b p.0 in
+    let w = within _ a.b.within in
     (w.few, omega (arith, w.few))
-
-pub slice_bounds-list-end : goal.slice_bounds-list-end
-slice_bounds-list-end c = omega (arith, c.fragments_needed-k.ensures)
-
-pub slice_bounds-deliver_from-end : goal.slice_bounds-deliver_from-end
-slice_bounds-deliver_from-end c =
-    let fragments_needed = c.fragments_needed-k in
-    let members = c.members in
-    sym (length-take-le fragments_needed.result members.new.out (omega (arith, members.auto.out, fragments_needed.ensures)))
 
 pub deliver_from-requires : goal.deliver_from-requires
 deliver_from-requires c =
@@ -44,14 +28,14 @@ deliver_from-requires c =
     let fragments_needed = c.fragments_needed-k in
     let fragment_most = c.fragment_most-s in
     let list = members.new.out in
-    let few = (within a.b p.0).few in
-    let e = lowest a.b a.set list members.result fragments_needed.result p.3 p.4 (omega (arith, members.auto.out, members.ensures.0))
+    let few = (within _ a.b.within).few in
+    let e = lowest a.b.table a.set list members.result fragments_needed.result p.2 p.3 (omega (arith, members.auto.out, members.ensures.0))
     members.ensures.1
     fragments_needed.ensures.0 in
-    let kept = subst (λ (s : ℕ). Kept a.b a.lengths.now a.area.now s (take fragments_needed.result list)) (sym fragment_most.ensures.0)
-    (subst (Kept a.b a.lengths.now a.area.now (s_max a.b)) (sym e)
-    (kept_first a.b a.lengths.now a.area.now a.set p.0 p.1 p.2 p.3 p.4 p.5)) in
-    (p.0, fragment_most.ensures.0, kept.0, kept.1, kept.2, kept.3, kept.4, p.6, p.7)
+    let kept = subst (λ (s : ℕ). Kept a.b.table a.lengths.now a.area.now s (take fragments_needed.result list)) (sym fragment_most.ensures.0)
+    (subst (Kept a.b.table a.lengths.now a.area.now (s_max a.b.table)) (sym e)
+    (kept_first a.b.table a.lengths.now a.area.now a.set a.b.within p.0 p.1 p.2 p.3 p.4)) in
+    (fragment_most.ensures.0, kept.0, kept.1, kept.2, kept.3, kept.4, p.5, p.6)
 
 pub returns : goal.returns
 unfolding result_of
@@ -62,10 +46,10 @@ returns c =
     let fragments_needed = c.fragments_needed-k in
     let fragment_most = c.fragment_most-s in
     let list = members.new.out in
-    let few = (within a.b p.0).few in
-    let e = lowest a.b a.set list members.result fragments_needed.result p.3 p.4 (omega (arith, members.auto.out, members.ensures.0))
+    let few = (within _ a.b.within).few in
+    let e = lowest a.b.table a.set list members.result fragments_needed.result p.2 p.3 (omega (arith, members.auto.out, members.ensures.0))
     members.ensures.1
     fragments_needed.ensures.0 in
-    c.deliver_from.ensures ∙ ap (λ (xs : List ℕ). left_by (result_from a.b a.root.now xs (λ i. part ((i - 1) * fragment_most.result) (two_at
-    a.lengths.now (2 * (i - 1))) a.area.now)) a.out.now) e ∙ ap (λ (s : ℕ). left_by (result_from a.b a.root.now (take (k_of a.b) (marks 1
-    a.b.n a.set)) (λ i. part ((i - 1) * s) (two_at a.lengths.now (2 * (i - 1))) a.area.now)) a.out.now) fragment_most.ensures.0
+    c.deliver_from.ensures ∙ ap (λ (xs : List ℕ). left_by (result_from a.b.table a.root.now xs (λ i. part ((i - 1) * fragment_most.result) (two_at
+    a.lengths.now (2 * (i - 1))) a.area.now)) a.out.now) e ∙ ap (λ (s : ℕ). left_by (result_from a.b.table a.root.now (take (k_of a.b.table) (marks 1
+    a.b.table.n a.set)) (λ i. part ((i - 1) * s) (two_at a.lengths.now (2 * (i - 1))) a.area.now)) a.out.now) fragment_most.ensures.0

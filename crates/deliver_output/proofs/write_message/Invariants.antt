@@ -10,8 +10,5 @@ use Rattle.deliver.specs.Working.{Copied}
 use Rattle.deliver_output.proofs.write_message.Given as goal
 
 abbrev pub invariant-loop-i : goal.invariant-loop-i
-invariant-loop-i l = (l.i ≤ length l.points) × (length l.out ≡ length l.initial.out) × (length l.ws ≡ length l.points) ×
-    (length l.sum ≡ 64) × Weights l.points l.m l.ds (suc l.i) l.ws × ((b : List ℕ) → Made l.area l.s l.points l.m l.ds l.len b → Copied b l.size (length l.points) l.i 0 l.initial.out l.out)
-
-abbrev pub decreases-loop-i : goal.decreases-loop-i
-decreases-loop-i l = l.i
+invariant-loop-i l = (l.i ≤ length l.kept.points.now) × (length l.out ≡ length l.initial.out) × (length l.ws ≡ length l.kept.points.now) ×
+    (length l.sum ≡ 64) × Weights l.kept.points.now l.m l.ds (suc l.i) l.ws × ((b : List ℕ) → Made l.kept.area.now l.kept.s l.kept.points.now l.m l.ds l.len b → Copied b l.size (length l.kept.points.now) l.i 0 l.initial.out l.out)
