@@ -23,8 +23,7 @@ use Rattle.state.specs.Sound.{sound}
 use Rattle.state.specs.declared.Marks.{Marks}
 use Rattle.state.proofs.Facts.{Sounds, sounds, is_sound}
 use Rattle.state.proofs.Writes.{Fit, view_marks}
-use Rattle.board.specs.declared.Plan.TheVariants.{Take}
-use Rattle.board.specs.Planned.{is_again, plan_of}
+use Rattle.board.specs.Planned.{Take, is_again, plan_of}
 use Rattle.board.specs.Stepped.{record_root, record_fragment, marked, kept, settled_to, leaves}
 use Rattle.board.proofs.Taken.{Taken, taken, not_done, fragment_room}
 use Rattle.board.proofs.KeptLaws.{kept_length, kept_table}

@@ -12,17 +12,13 @@ use lib.Dec.{ltb}
 use Rattle.octets.specs.Bytes.{pick}
 use Rattle.table.specs.Table.{s_max, is_board}
 use Rattle.table.specs.declared.Table.{Table}
-use Rattle.record.specs.Form.{out_bytes, parse}
-use Rattle.record.specs.declared.Read.{Read}
-use Rattle.record.specs.declared.Read.TheVariants.{Form, Fault}
+use Rattle.record.specs.Form.{Read, Form, Fault, out_bytes, parse}
 use Rattle.record.proofs.Cuts.{fault_placed}
 use Rattle.state.specs.State.{fixed_bytes, view, state_size, table_of, marks_of, fragment_at}
 use Rattle.state.specs.Sound.{sound}
 use Rattle.state.specs.declared.Marks.{Marks}
 use Rattle.table.proofs.Within.{board_number}
-use Rattle.board.specs.declared.Plan.{Plan}
-use Rattle.board.specs.declared.Plan.TheVariants.{Refuse, Take}
-use Rattle.board.specs.Planned.{is_short, is_stray, is_late, is_again, by_marks, by_form, plan_by, plan_of}
+use Rattle.board.specs.Planned.{Plan, Refuse, Take, is_short, is_stray, is_late, is_again, by_marks, by_form, plan_by, plan_of}
 use Rattle.octets.proofs.Picks.{or_none_l}
 use Rattle.board.proofs.Buffers.{not_short}
 

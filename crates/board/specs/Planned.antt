@@ -1,17 +1,28 @@
 -- Document 01, "Refusal numbers": what a step is to do with a record. "The first that applies is given."
-use Rattle.std.specs.Prelude.{◌≡◌, ℕ, ◌-◌, ◌≤◌, List, Bool, true, not, ◌&&◌, ◌||◌, length, ltb, eqb}
+use Rattle.std.specs.Prelude.{◌≡◌, ℕ, ◌-◌, ◌≤◌, List, Bool, true, Result, Ok, Err, not, ◌&&◌, ◌||◌, length, ltb, eqb}
 use Rattle.octets.specs.Bytes.{pick}
 use Rattle.octets.specs.Sets.{has}
 use Rattle.table.specs.Table.{s_max, is_board}
 use Rattle.table.specs.declared.Table.{Table}
-use Rattle.record.specs.Form.{out_bytes, parse}
-use Rattle.record.specs.declared.Read.{Read}
-use Rattle.record.specs.declared.Read.TheVariants.{Form, Fault}
+use Rattle.record.specs.Form.{Read, Form, Fault, out_bytes, parse}
+use Rattle.record.specs.Kinds.{kind_number}
+use Rattle.record.specs.declared.Outline.{Outline}
+use Rattle.refusal.specs.Numbers.{number_of}
+use Rattle.refusal.specs.declared.Refused.{Refused}
 use Rattle.state.specs.State.{fixed_bytes, view, state_size, table_of, marks_of}
 use Rattle.state.specs.Sound.{sound}
 use Rattle.state.specs.declared.Marks.{Marks}
-use Rattle.board.specs.declared.Plan.{Plan}
-use Rattle.board.specs.declared.Plan.TheVariants.{Refuse, Take}
+
+-- what is to be done with a record: refuse it with a number, and with the place of the field at fault where there is one (else 0); or take it, a
+-- record of a kind, with so many path nodes and so many fragment bytes
+pub data Plan : Type 0 where
+  Refuse : ℕ → ℕ → Plan
+  Take : ℕ → ℕ → ℕ → Plan
+
+-- by what there is to take, or why it is refused
+abbrev pub plan_as : Result Outline Refused → Plan
+plan_as (Ok o) = Take (kind_number o.kind) o.nodes o.len
+plan_as (Err e) = Refuse (number_of e.why) e.at
 
 -- 2, "a lent buffer shorter than needed": the state, "an outgoing record buffer 16,619; a delivery buffer L"
 unfoldable pub is_short : Table → ℕ → ℕ → ℕ → Bool

@@ -9,9 +9,7 @@ use Rattle.table.specs.declared.Table.{Table}
 use Rattle.code.specs.Code.{All, Byte}
 use Rattle.state.specs.State.{state_size, view, table_of, own_of}
 use Rattle.state.specs.Sound.{sound}
-use Rattle.board.specs.declared.Plan.{Plan}
-use Rattle.board.specs.declared.Plan.TheVariants.{Refuse, Take}
-use Rattle.board.specs.Planned.{plan_of}
+use Rattle.board.specs.Planned.{Plan, Refuse, Take, plan_of}
 use Rattle.board.specs.Started.{fresh_bytes, start_of}
 use Rattle.board.proofs.Starts.{start_table, start_own, accepted, start_sound}
 use Rattle.board.proofs.Taken.{taken}

@@ -20,9 +20,7 @@ use Rattle.record.proofs.PartLaws.{kind_few}
 use Rattle.state.specs.State.{view, table_of, own_of, marks_of}
 use Rattle.state.specs.declared.Marks.{Marks}
 use Rattle.state.proofs.Facts.{sounds}
-use Rattle.board.specs.declared.Plan.{Plan}
-use Rattle.board.specs.declared.Plan.TheVariants.{Refuse, Take}
-use Rattle.board.specs.Planned.{plan_of}
+use Rattle.board.specs.Planned.{Plan, Refuse, Take, plan_of}
 use Rattle.board.specs.Stepped.{record_root, marked, kept, voted_now, ends_now}
 use Rattle.board.proofs.Taken.{Taken, taken, not_done}
 use Rattle.board.proofs.StepSound.{settled_sounds}

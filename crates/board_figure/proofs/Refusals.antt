@@ -14,17 +14,13 @@ use Rattle.octets.proofs.Picks.{or_false, never}
 use Rattle.table.specs.Table.{s_max, is_board}
 use Rattle.table.specs.declared.Table.{Table}
 use Rattle.table.proofs.Within.{board_number}
-use Rattle.record.specs.Form.{out_bytes, parse}
-use Rattle.record.specs.declared.Read.{Read}
-use Rattle.record.specs.declared.Read.TheVariants.{Form, Fault}
+use Rattle.record.specs.Form.{Read, Form, Fault, out_bytes, parse}
 use Rattle.record.proofs.Facts.{whole}
 use Rattle.record.proofs.PartLaws.{kind_few}
 use Rattle.state.specs.State.{fixed_bytes, state_size, view, table_of, own_of, marks_of}
 use Rattle.state.specs.Sound.{sound}
 use Rattle.state.specs.declared.Marks.{Marks}
-use Rattle.board.specs.declared.Plan.{Plan}
-use Rattle.board.specs.declared.Plan.TheVariants.{Take}
-use Rattle.board.specs.Planned.{is_short, is_stray, is_late, is_again, by_marks, by_form, plan_by, plan_of}
+use Rattle.board.specs.Planned.{Plan, Take, is_short, is_stray, is_late, is_again, by_marks, by_form, plan_by, plan_of}
 use Rattle.board.specs.Stepped.{record_root, record_fragment}
 use Rattle.figure.specs.Received.{noted, shown}
 use Rattle.figure.specs.Run.{Handed, passed_over, Party}

@@ -18,8 +18,7 @@ use Rattle.record.proofs.PartLaws.{kind_few}
 use Rattle.state.specs.State.{view, view_of, table_of, own_of, marks_of}
 use Rattle.state.specs.declared.Marks.{Marks}
 use Rattle.state.proofs.Facts.{Sounds, sounds}
-use Rattle.board.specs.declared.Plan.TheVariants.{Take}
-use Rattle.board.specs.Planned.{is_stray, is_late, is_again, plan_of}
+use Rattle.board.specs.Planned.{Take, is_stray, is_late, is_again, plan_of}
 use Rattle.board.specs.Stepped.{record_root, marked, kept, voted_now, output_now, ends_now, with_flags, settled_to, leaves}
 use Rattle.board.proofs.Taken.{Taken, taken, not_done, fragment_room}
 use Rattle.board.proofs.KeptLaws.{kept_length, kept_table}

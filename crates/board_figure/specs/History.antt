@@ -4,9 +4,7 @@ use Rattle.std.proofs.Math.Option.{Option, none, some}
 use Rattle.table.specs.Table.{s_max, is_board}
 use Rattle.table.specs.declared.Table.{Table}
 use Rattle.code.specs.Code.{All, Byte}
-use Rattle.record.specs.Form.{out_bytes, parse}
-use Rattle.record.specs.declared.Read.{Read}
-use Rattle.record.specs.declared.Read.TheVariants.{Form, Fault}
+use Rattle.record.specs.Form.{Read, Form, Fault, out_bytes, parse}
 use Rattle.board_step.specs.Step.{step_of}
 use Rattle.figure.specs.Run.{Handed, Party}
 use Rattle.board_figure.specs.Figure.{Message, Figure, receive, Branch}

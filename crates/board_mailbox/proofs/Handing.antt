@@ -10,12 +10,10 @@ use lib.ListN.{length, get_or}
 use Rattle.octets.specs.Bytes.{pick, part, put, two_at}
 use Rattle.octets.proofs.Picks.{never}
 use Rattle.table.specs.Table.{s_max}
-use Rattle.record.specs.Form.{out_bytes, parse, record_of}
+use Rattle.record.specs.Form.{out_bytes, is_kind, parse, record_of}
 use Rattle.record.proofs.Facts.{whole}
 use Rattle.state.specs.State.{table_of, marks_of}
-use Rattle.board.specs.declared.Plan.{Plan}
-use Rattle.board.specs.declared.Plan.TheVariants.{Refuse, Take}
-use Rattle.board.specs.Planned.{by_board, BuffersDo, plan_of}
+use Rattle.board.specs.Planned.{Plan, Refuse, Take, by_board, BuffersDo, plan_of}
 use Rattle.board.specs.Stepped.{record_root, marked, kept, voted_now, ends_now, leaves}
 use Rattle.board.proofs.Buffers.{ready_plan}
 use Rattle.board.proofs.Taken.{Taken, taken, listed, listed_between}
@@ -40,6 +38,7 @@ number_of (Take k p f) q e n = absurd (n e)
 pub record Takes (s : List ℕ) (from : ℕ) (r o d : List ℕ) : Type 0 where
   pub plan : plan_of s from r o d ≡ Take (get_or r 0 0) (two_at r 35) (length r - 39 - 32 * two_at r 35)
   pub ends : 39 + 32 * two_at r 35 ≤ length r
+  pub kind : is_kind (get_or r 0 0) ≡ true
 
 module _ (s : List ℕ) (from : ℕ) (r o d : List ℕ) where
   taken_by : (x : Plan) → plan_of s from r o d ≡ x → 0 ≡ refusal_in x → Takes s from r o d
@@ -48,7 +47,7 @@ module _ (s : List ℕ) (from : ℕ) (r o d : List ℕ) where
   taken_by (Take k p f) e z =
       let w = whole r k p f (taken s from r o d k p f e).form in
       let len : length r - 39 - 32 * p ≡ f = omega (arith, w.ends) in
-      record { plan = rw (w.kind, w.path_count, len) e; ends = omega (arith, w.ends, w.path_count) }
+      record { plan = rw (w.kind, w.path_count, len) e; ends = omega (arith, w.ends, w.path_count); kind = rw w.kind w.kind_ok }
 
   module _ (h : BuffersDo s (length o) (length d)) (q : ℕ) (e : q ≡ refusal_in (by_board (table_of s) (marks_of s) from (parse r))) where
     planned : q ≡ refusal_in (plan_of s from r o d)

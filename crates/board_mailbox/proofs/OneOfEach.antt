@@ -15,9 +15,7 @@ use Rattle.table.specs.Table.{s_max}
 use Rattle.record.specs.Form.{record_of}
 use Rattle.state.specs.State.{table_of, marks_of}
 use Rattle.state.specs.declared.Marks.{Marks}
-use Rattle.board.specs.declared.Plan.{Plan}
-use Rattle.board.specs.declared.Plan.TheVariants.{Refuse, Take}
-use Rattle.board.specs.Planned.{is_again, plan_of}
+use Rattle.board.specs.Planned.{Plan, Refuse, Take, is_again, plan_of}
 use Rattle.board.specs.Stepped.{record_root, marked, kept, voted_now, ends_now, with_flags, settled_to}
 use Rattle.board.proofs.Taken.{Taken, taken, not_done}
 use Rattle.board_step.specs.Step.{Outcome, good, put_out, result_in, delivered, said_by, taken_of, by_plan, step_of}

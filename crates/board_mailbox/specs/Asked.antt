@@ -2,9 +2,7 @@
 use Rattle.std.specs.Prelude.{ℕ, ◌≤◌, List, eqb, length}
 use Rattle.octets.specs.Bytes.{pick}
 use Rattle.record.specs.Form.{vote_bytes}
-use Rattle.board.specs.declared.Plan.{Plan}
-use Rattle.board.specs.declared.Plan.TheVariants.{Refuse, Take}
-use Rattle.board.specs.Planned.{BuffersDo}
+use Rattle.board.specs.Planned.{Plan, Refuse, Take, BuffersDo}
 use Rattle.board_mailbox.specs.declared.Mailed.{Mailed}
 
 -- the number by which a plan refuses, or 0

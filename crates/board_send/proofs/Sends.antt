@@ -22,11 +22,10 @@ use Rattle.code_encode.proofs.Sizes.{rows_most, fragment_length}
 use Rattle.tree.specs.Tree.{tree_of, depth, root_of, path_of, flat}
 use Rattle.tree.specs.Check.{path_correct}
 use Rattle.tree.proofs.Checks.{root_length, path_length, depth_small, own_path}
-use Rattle.record.specs.Form.{out_bytes, parse, is_kind, nodes_most, fragment_ok, record_of}
-use Rattle.record.specs.declared.Read.TheVariants.{Form}
+use Rattle.record.specs.Form.{Form, out_bytes, parse, is_kind, nodes_most, fragment_ok, record_of}
 use Rattle.record.proofs.Round.{read_back}
 use Rattle.board_send.specs.Sent.{send_refusal, send_record, SendOut, send_out, send_by, send_of}
-use Rattle.octets.specs.declared.Sized.{Sized}
+use Rattle.refusal.specs.declared.Sized.{Sized}
 use Rattle.record.proofs.Sections.{record_length, record_root, record_path, record_fragment}
 
 -- a send of so many path nodes and fragment bytes reads back as one

@@ -1,9 +1,10 @@
 -- A call that is not refused: what each of its refusals, not applying, says; and how the code's steps make up the promise.
 -- Assumes nothing.
-use mathlib.Core.Path.{◌≡◌, refl, ap, ap₂, ◌∙◌}
+use mathlib.Core.Path.{◌≡◌, ap, ap₂, ◌∙◌}
 use mathlib.Core.Bool.{true, not}
 use mathlib.Core.List.{List}
-use Prim.Native.Nat.{ℕ, zero, suc, ◌-◌, ◌≤◌}
+use Prim.Native.Nat.{ℕ, zero, suc, ◌-◌, ◌<◌, ◌≤◌}
+use native.Mathlib.Omega.{arith}
 use borrow.Author.Tests.{ltb-false}
 use lib.Dec.{ltb}
 use lib.ListN.{length}
@@ -15,7 +16,11 @@ use Rattle.table.proofs.Within.{board_number}
 use Rattle.tree.specs.Tree.{tree_of, depth, root_of, path_of, flat}
 use Rattle.code_encode.specs.Message.{fragment_for}
 use Rattle.record.specs.Form.{out_bytes, record_of}
-use Rattle.octets.specs.Answers.{sized}
+use Rattle.refusal.specs.declared.Refusal.{Refusal}
+use Rattle.refusal.specs.Numbers.{number_of}
+use Rattle.refusal.specs.Answers.{sized, sized_of}
+use Rattle.refusal.proofs.Numbers.{number_some}
+use Rattle.std.specs.Prelude.{Err}
 use Rattle.board_send.specs.Sent.{send_refusal, send_record, send_out, send_by, send_of}
 use Rattle.board_send.specs.Laying.{fragments}
 
@@ -44,10 +49,13 @@ module _ (b : Table) (message : List ℕ) (to : ℕ) (out : List ℕ) where
       }
 
   -- what the code does once it knows the refusal
-  pub send_refused : (q : ℕ) → (q ≡ 0 → ⊥) → q ≡ send_refusal b message to out → send_out (sized q 0) out ≡ send_of b message to out
+  refused_by : (q : ℕ) → 0 < q → q ≡ send_refusal b message to out → send_out (sized q 0) out ≡ send_of b message to out
   unfolding send_of send_by
-  send_refused zero some e = absurd (some refl)
-  send_refused (suc q) some e = ap (λ (q : ℕ). send_by q b message to out) e
+  refused_by zero some e = absurd (omega arith)
+  refused_by (suc q) some e = ap (λ (q : ℕ). send_by q b message to out) e
+
+  pub send_refused : (r : Refusal) → number_of r ≡ send_refusal b message to out → send_out (sized_of (Err r)) out ≡ send_of b message to out
+  send_refused r e = refused_by (number_of r) (number_some r) e
 
   -- the record with k as the code has it
   abbrev made : ℕ → List ℕ

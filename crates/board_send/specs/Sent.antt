@@ -2,13 +2,13 @@
 -- table, message and j" and "Sender: 1, 2, 4, 13".
 use Rattle.std.specs.Prelude.{not, List, ℕ, zero, suc, ◌-◌, ltb, length}
 use Rattle.octets.specs.Bytes.{pick, put}
-use Rattle.octets.specs.Answers.{sized}
+use Rattle.refusal.specs.Answers.{sized}
 use Rattle.table.specs.Table.{limits, is_board}
 use Rattle.table.specs.declared.Table.{Table}
 use Rattle.tree.specs.Tree.{tree_of, depth, root_of, path_of, flat}
 use Rattle.code_encode.specs.Message.{fragment_for}
 use Rattle.record.specs.Form.{out_bytes, record_of}
-use Rattle.octets.specs.declared.Sized.{Sized}
+use Rattle.refusal.specs.declared.Sized.{Sized}
 
 -- "table outside its limits", "a lent buffer shorter than needed" (an outgoing record buffer needs 16,619 bytes), "board number (.. to ..) not
 -- in 1..n", "message longer than L": the first that applies, or 0

@@ -1,82 +1,63 @@
 // The sender's record for a board. Fragment after fragment is worked out in the room that the record's own fragment has in `out`.
 #![tactic(auto)]
 
-ghost use Rattle.std.specs.Prelude.{◌≡◌, List, ℕ, ◌+◌, ◌*◌, ◌≤◌, ◌<◌, length};
+ghost use Rattle.std.specs.Prelude.{◌≡◌, List, ℕ, ◌+◌, ◌*◌, ◌≤◌, ◌<◌, length, replicate, IfOk};
 ghost use Rattle.octets.specs.Bytes.{part, put};
 ghost use Rattle.sha256.specs.Sha256.{sha256};
 ghost use Rattle.tree.specs.Tree.{tree_of, depth, root_of, path_of, flat, climb};
 ghost use Rattle.tree.specs.Check.{node_of};
 ghost use Rattle.record.specs.Form.{out_bytes, record_of};
+ghost use Rattle.refusal.specs.Numbers.{refused};
+ghost use Rattle.refusal.specs.Answers.{sized_of};
 ghost use Rattle.board_send.specs.Sent.{send_refusal, send_out, send_of};
 ghost use Rattle.board_send.specs.Laying.{fragments, FragmentRoom, Alike, Laid};
 
-use octets::Sized;
-use table::Table;
+use refusal::Refusal;
+use table::{InLimits, Table};
 
-// The root of c fragments, from that of board a + 1 on, each worked out in turn, into the first 32 bytes of the stack.
-fn run_in(
-    message: &[u8],
+// A message that is cut by k, its fragments worked out one after the other in a room of len bytes, from byte `at` of a buffer on.
+#[derive(Clone, Copy)]
+struct Cut<'a> {
+    message: &'a [u8],
     k: usize,
-    a: usize,
-    c: usize,
-    out: &mut [u8],
     at: usize,
     len: usize,
-    stack: &mut [u8],
-)
-    requires { FragmentRoom k message.now at len out.old × (0 < c) × (a + c ≤ 64) × (224 ≤ length stack.old) }
-    ensures { (part 0 32 stack.new ≡ root_of c (λ j. fragments k message.now (a + j))) × Alike at len out.new out.old }
+    ghost room: { FragmentRoom k message.now at len (replicate (at + len) 0) },
+}
+
+// The root of c fragments, from that of board a + 1 on, each worked out in turn, into the first 32 bytes of the stack.
+fn run_in(cut: &Cut<'_>, a: usize, c: usize, out: &mut [u8], stack: &mut [u8])
+    requires { (cut.now.at + cut.now.len ≤ length out.old) × (0 < c) × (a + c ≤ 64) × (224 ≤ length stack.old) }
+    ensures { (part 0 32 stack.new ≡ root_of c (λ j. fragments cut.now.k cut.now.message.now (a + j))) × Alike cut.now.at cut.now.len out.new out.old }
 {
-    let mut j = 0;
-    while j < c {
-        code_encode::put_fragment(message, k, a + j, out, at);
-        tree_stack::add_leaf(stack, j, c, out, at, len);
-        j += 1;
+    for j in 0..c {
+        code_encode::put_fragment(cut.message, cut.k, a + j, out, cut.at);
+        tree_stack::add_leaf(stack, j, c, &out[cut.at..cut.at + cut.len]);
     }
 }
 
 // The path of board i + 1 a level further: the root of the fragments beside it, if there are any. stack is room to work in.
-fn put_node(
-    message: &[u8],
-    n: usize,
-    k: usize,
-    i: usize,
-    d: usize,
-    out: &mut [u8],
-    at: usize,
-    len: usize,
-    stack: &mut [u8],
-)
-    requires { FragmentRoom k message.now at len out.old × (n ≤ 64) × (i < n) × (d < 6) × (at ≡ 39 + 32 * depth (tree_of n) i) × (224 ≤ length stack.old) }
-    ensures { (old : List ℕ) → Laid n (fragments k message.now) i d at len old out.old → Laid n (fragments k message.now) i (d + 1) at len old out.new }
+fn put_node(cut: &Cut<'_>, n: usize, i: usize, d: usize, out: &mut [u8], stack: &mut [u8])
+    requires { (cut.now.at + cut.now.len ≤ length out.old) × (n ≤ 64) × (i < n) × (d < 6) × (cut.now.at ≡ 39 + 32 * depth (tree_of n) i) × (224 ≤ length stack.old) }
+    ensures { (old : List ℕ) → Laid n (fragments cut.now.k cut.now.message.now) i d cut.now.at cut.now.len old out.old
+        → Laid n (fragments cut.now.k cut.now.message.now) i (d + 1) cut.now.at cut.now.len old out.new }
 {
     if n <= tree::middle_of(i, d) {
         return;
     }
     let a = tree::beside_of(i, d);
     let c = tree::leaf_count(n, d, a);
-    run_in(message, k, a, c, out, at, len, stack);
-    octets::copy_part(out, 37 + 32 * tree::nodes(n, i, d), stack, 0, 32);
+    run_in(cut, a, c, out, stack);
+    octets::copy_at(out, 37 + 32 * tree::nodes(n, i, d), &stack[..32]);
 }
 
 // The path of board i + 1. stack is room to work in.
-fn put_path(
-    message: &[u8],
-    n: usize,
-    k: usize,
-    i: usize,
-    out: &mut [u8],
-    at: usize,
-    len: usize,
-    stack: &mut [u8],
-)
-    requires { FragmentRoom k message.now at len out.old × (n ≤ 64) × (i < n) × (at ≡ 39 + 32 * depth (tree_of n) i) × (224 ≤ length stack.old) }
-    ensures { Alike at len out.new (put 37 (flat (path_of n (fragments k message.now) i)) out.old) }
+fn put_path(cut: &Cut<'_>, n: usize, i: usize, out: &mut [u8], stack: &mut [u8])
+    requires { (cut.now.at + cut.now.len ≤ length out.old) × (n ≤ 64) × (i < n) × (cut.now.at ≡ 39 + 32 * depth (tree_of n) i) × (224 ≤ length stack.old) }
+    ensures { Alike cut.now.at cut.now.len out.new (put 37 (flat (path_of n (fragments cut.now.k cut.now.message.now) i)) out.old) }
 {
-    let mut d = 0;
-    while d < 6 {
-        put_node(message, n, k, i, d, out, at, len, stack);
-        d += 1;
+    for d in 0..6 {
+        put_node(cut, n, i, d, out, stack);
     }
 }
 
@@ -86,7 +67,7 @@ fn root_in(out: &[u8], n: usize, i: usize, nodes: usize, len: usize, stack: &mut
     ensures { part 0 32 stack.new ≡ climb sha256 (node_of (part 37 (32 * nodes) out.now)) (tree_of n) i (part (39 + 32 * nodes) len out.now) }
 {
     let end = 37 + 32 * nodes;
-    tree_stack::put_leaf(out, end + 2, len, stack, tree_stack::top_of(i));
+    tree_stack::put_leaf(&out[end + 2..end + 2 + len], stack, tree_stack::top_of(i));
     tree_stack::climb_up(stack, &out[37..end], n, i);
 }
 
@@ -99,52 +80,46 @@ fn put_record(message: &[u8], n: usize, k: usize, i: usize, out: &mut [u8]) -> u
     let len = code::row_count(message.len(), k);
     let nodes = tree::nodes(n, i, 6);
     let at = 39 + 32 * nodes;
+    let cut = Cut {
+        message: message,
+        k: k,
+        at: at,
+        len: len,
+    };
     let mut stack = [0u8; 224];
     octets::copy_at(out, 0, b"\x01\x00\x20");
     octets::put_two(out, 35, nodes);
     octets::put_two(out, 37 + 32 * nodes, len);
-    put_path(message, n, k, i, out, at, len, &mut stack);
+    put_path(&cut, n, i, out, &mut stack);
     code_encode::put_fragment(message, k, i, out, at);
     root_in(out, n, i, nodes, len, &mut stack);
-    octets::copy_part(out, 3, &stack, 0, 32);
+    octets::copy_at(out, 3, &stack[..32]);
     at + len
 }
 
-// Why the sender's record is refused, or 0.
-fn send_refusal(b: Table, message: &[u8], to: usize, out: &[u8]) -> u32
-    ensures { result ≡ send_refusal b message.now to out.now }
+// Why the sender's record is refused; else the table, within its limits.
+fn send_refusal(b: Table, message: &[u8], to: usize, out: &[u8]) -> Result<InLimits, Refusal>
+    ensures number { refused result ≡ send_refusal b message.now to out.now }
+    ensures table { IfOk result (λ c. c.table ≡ b) }
 {
-    if !table::in_limits(b) {
-        return 1;
-    }
+    let c = InLimits::try_from(b)?;
     if out.len() < record::OUT_BYTES {
-        return 2;
+        return Err(Refusal::Buffer);
     }
-    if !table::is_board(b, to) {
-        return 4;
+    if !b.is_board(to) {
+        return Err(Refusal::Board);
     }
     if b.longest < message.len() {
-        return 13;
+        return Err(Refusal::Message);
     }
-    0
+    Ok(c)
 }
 
-// The sender's record for board `to`.
-pub fn send(b: Table, message: &[u8], to: usize, out: &mut [u8]) -> Sized
-    ensures { send_out result out.new ≡ send_of b message.now to out.old }
+// The sender's record for board `to`; its length.
+pub fn send(b: Table, message: &[u8], to: usize, out: &mut [u8]) -> Result<u32, Refusal>
+    ensures { send_out (sized_of result) out.new ≡ send_of b message.now to out.old }
 {
-    let q = send_refusal(b, message, to, out);
-    if q != 0 {
-        return Sized {
-            number: q,
-            length: 0,
-        };
-    }
-    let n = b.n;
-    let k = table::fragments_needed(b);
-    let len = put_record(message, n, k, to - 1, out);
-    Sized {
-        number: 0,
-        length: len as u32,
-    }
+    let c = send_refusal(b, message, to, out)?;
+    let len = put_record(message, b.n, c.fragments_needed(), to - 1, out);
+    Ok(len as u32)
 }

@@ -14,9 +14,7 @@ use Rattle.code.specs.Code.{All, Byte}
 use Rattle.code.proofs.Lists.{all_append, all_put, part_bytes, two_bytes}
 use Rattle.state.specs.State.{fixed_bytes, table_of, marks_bytes, len_at, echo_at, vote_at, fragment_at}
 use Rattle.state.specs.declared.Marks.{Marks}
-use Rattle.board.specs.declared.Plan.{Plan}
-use Rattle.board.specs.declared.Plan.TheVariants.{Refuse, Take}
-use Rattle.board.specs.Planned.{plan_of}
+use Rattle.board.specs.Planned.{Plan, Refuse, Take, plan_of}
 use Rattle.board.specs.Started.{fresh_bytes, start_of}
 use Rattle.board.specs.Stepped.{record_root, record_fragment, kept, leaves}
 use Rattle.board.proofs.KeptLaws as Kept

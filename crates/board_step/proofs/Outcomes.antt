@@ -15,16 +15,13 @@ use Rattle.octets.proofs.Laws.{length_put}
 use Rattle.octets.proofs.Picks.{and_l}
 use Rattle.table.specs.Table.{s_max}
 use Rattle.table.specs.declared.Table.{Table}
-use Rattle.record.specs.Form.{is_kind, nodes_most, fragment_ok, parse, record_of}
-use Rattle.record.specs.declared.Read.TheVariants.{Form}
+use Rattle.record.specs.Form.{Form, is_kind, nodes_most, fragment_ok, parse, record_of}
 use Rattle.record.proofs.Facts.{whole}
 use Rattle.record.proofs.Round.{read_back}
 use Rattle.state.specs.State.{view, table_of, own_of, marks_of}
 use Rattle.state.specs.Sound.{sound}
 use Rattle.state.specs.declared.Marks.{Marks}
-use Rattle.board.specs.declared.Plan.{Plan}
-use Rattle.board.specs.declared.Plan.TheVariants.{Refuse, Take}
-use Rattle.board.specs.Planned.{plan_of}
+use Rattle.board.specs.Planned.{Plan, Refuse, Take, plan_of}
 use Rattle.board.specs.Started.{begun, start_of}
 use Rattle.board.specs.Stepped.{record_root, record_path, record_fragment, marked, kept, voted_now}
 use Rattle.board.proofs.Taken.{Taken, taken, Listed, listed, listed_between}

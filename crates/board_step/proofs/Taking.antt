@@ -27,8 +27,10 @@ use Rattle.board.specs.Stepped.{record_root, marked, kept, won, enough_usable, v
 use Rattle.board.proofs.Taken.{Taken, not_done, fragment_room}
 use Rattle.board.proofs.KeptLaws.{kept_length, left_table}
 use Rattle.board.proofs.StepSound.{fit, settled_sounds}
-use Rattle.deliver.specs.declared.Delivered.{Delivered}
-use Rattle.deliver.specs.Delivered.{left, result_of}
+use Rattle.std.specs.Prelude as P
+use Rattle.std.specs.Prelude.{None}
+use Rattle.deliver.specs.declared.Delivery.{Delivery}
+use Rattle.deliver.specs.Delivered.{kind_of, size_of, left, result_of}
 use Rattle.board_step.specs.Asked.{Formed, Deliverable}
 use Rattle.board_step.specs.Step.{stepped, outcome, good, put_out, said_by, usable_for, kept_of, result_in, delivered, taken_of}
 
@@ -172,9 +174,9 @@ module _ (b : Table) (m after : Marks) (s : List ℕ) (same_set : after.usable �
   }
 
 -- no delivery, where none is due
-pub none_due : (x : Delivered) (done : Bool) (result : Option (List ℕ)) (d : List ℕ) → (x.kind ≡ 0) × (x.length ≡ 0) → done ≡ false → left x d ≡ delivered done result d
+pub none_due : (done : Bool) (result : Option (List ℕ)) (d : List ℕ) → done ≡ false → left None d ≡ delivered done result d
 unfolding delivered pick
-none_due x done result d h e = rw (e, h.0, h.1)
+none_due done result d e = rw e
 
 module _ (s : List ℕ) (from : ℕ) (r o d : List ℕ) (k p f : ℕ) (t : Taken s from r o d k p f) (ok : Bool) where
   -- what was kept, and the marks once all that is due is done
@@ -205,7 +207,7 @@ module _ (s : List ℕ) (from : ℕ) (r o d : List ℕ) (k p f : ℕ) (t : Taken
         deliverable_still (table_of s) before after bytes same_usable r d after.done (deliverable s from r o d k p f t ok),
       )
 
-  result_left : (s2 d2 : List ℕ) (x : Delivered) → s2 ≡ leaves ok k p f from r s
+  result_left : (s2 d2 : List ℕ) (x : P.Option Delivery) → s2 ≡ leaves ok k p f from r s
       → left x d2 ≡ delivered (marks_of s2).done (result_in (table_of s2) (marks_of s2) s2 (record_root r)) d
       → left x d2 ≡ delivered (ends_now (table_of s) (not (eqb k 1)) before bytes (record_root r)) (result_in (table_of s) before bytes (record_root r)) d
   unfolding leaves
@@ -217,12 +219,12 @@ module _ (s : List ℕ) (from : ℕ) (r o d : List ℕ) (k p f : ℕ) (t : Taken
       ex ∙ rw (e2, e1)
 
   -- what the functions leave, one after the other, is what the definition says; w is the buffer that was written, o the one of the plan
-  pub takes : (w s2 o2 d2 : List ℕ) (len : ℕ) (x : Delivered)
+  pub takes : (w s2 o2 d2 : List ℕ) (len : ℕ) (x : P.Option Delivery)
       → ok ≡ good k p f from r s
       → s2 ≡ leaves ok k p f from r s
       → len ≡ length (said_by ok k p f from r s)
       → o2 ≡ put 0 (said_by ok k p f from r s) w
       → left x d2 ≡ delivered (marks_of s2).done (result_in (table_of s2) (marks_of s2) s2 (record_root r)) d
-      → outcome (stepped len x.kind x.length) s2 o2 d2 ≡ taken_of k p f s from r w d
+      → outcome (stepped len (kind_of x) (size_of x)) s2 o2 d2 ≡ taken_of k p f s from r w d
   unfolding taken_of said_by
   takes w s2 o2 d2 len x ey es el eo ex = rw (← ey, ← result_left s2 d2 x es ex, ← es, ← el, ← eo)

@@ -9,9 +9,7 @@ use Rattle.state.specs.State.{table_of, own_of, marks_of, len_at, echo_at, fragm
 use Rattle.state.specs.Sound.{naming}
 use Rattle.state.specs.declared.Marks.{Marks}
 use Rattle.tree.specs.Check.{path_correct}
-use Rattle.board.specs.declared.Plan.{Plan}
-use Rattle.board.specs.declared.Plan.TheVariants.{Refuse, Take}
-use Rattle.board.specs.Planned.{plan_of}
+use Rattle.board.specs.Planned.{Plan, Refuse, Take, plan_of}
 use Rattle.board.specs.Stepped.{record_root, record_path, record_fragment, marked, kept, voted_now, ends_now, leaves}
 use Rattle.deliver.specs.Delivered.{Left, result_of, left_by}
 use Rattle.board_step.specs.declared.Stepped.{Stepped}

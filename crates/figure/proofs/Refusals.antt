@@ -7,8 +7,7 @@ use mathlib.Core.Option.{none, some}
 use mathlib.Core.Logic.{◌⊎◌, inl, inr}
 use Rattle.octets.specs.Bytes.{pick}
 use Rattle.octets.proofs.Picks.{never}
-use Rattle.board.specs.declared.Plan.{Plan}
-use Rattle.board.specs.declared.Plan.TheVariants.{Refuse, Take}
+use Rattle.board.specs.Planned.{Plan, Refuse, Take}
 use Rattle.board_step.specs.Step.{refused}
 use Rattle.figure.specs.Run.{Handed, passed_over, Party}
 use Rattle.figure.proofs.History.{Made, passed, missed}

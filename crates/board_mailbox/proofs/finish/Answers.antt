@@ -5,4 +5,4 @@ use Rattle.board_mailbox.proofs.finish.Goals as goal
 pub returns-then-not-is_done : goal.returns-then-not-is_done
 returns-then-not-is_done c =
     let is_done = c.is_done in
-    none_due c.nothing.result _ _ _ c.nothing.ensures (sym is_done.ensures ∙ c.if-not-is_done.true)
+    none_due _ _ _ (sym is_done.ensures ∙ c.if-not-is_done.true)

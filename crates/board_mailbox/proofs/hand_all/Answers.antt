@@ -43,26 +43,14 @@ hand_over-next-requires c =
     let p = c.requires in
     (l.invariant.opened, omega (arith, l.invariant.long.answers, loop_test.true, two_at.ensures.0, p.1.1))
 
-pub overflow_add-i : goal.overflow_add-i
-overflow_add-i c =
-    let loop_test = c.loop-i-test in
-    let two_at = c.two_at-count in
-    let l = c.loop-i in
-    omega (arith, ends _ _ _ _ _ _ l.invariant loop_test.true, loop_test.true, two_at.ensures.1)
-
-pub loop-i-smaller : goal.loop-i-smaller
-loop-i-smaller c =
-    let loop_test = c.loop-i-test in
-    omega (arith, loop_test.true)
-
 pub loop-i-preserved : goal.loop-i-preserved
 loop-i-preserved c =
     let loop_test = c.loop-i-test in
     let hand_over = c.hand_over-next in
     let two_at2 = c.two_at in
     let l = c.loop-i in
-    let wide = c.wide-from in
-    walk_next _ _ _ _ _ _ l.invariant loop_test.true wide.result two_at2.result _ wide.ensures.0 two_at2.ensures.0 hand_over.ensures
+    let from = c.from-from in
+    walk_next _ _ _ _ _ _ l.invariant loop_test.true from.result two_at2.result _ from.ensures two_at2.ensures.0 hand_over.ensures
 
 pub shape_of-state : goal.shape_of-state
 shape_of-state c = c.loop-i.invariant.long.state

@@ -1,10 +1,10 @@
 use Rattle.board_mailbox.specs.Asked.{refusal_in}
 use Rattle.board_mailbox.proofs.record_refusal.Goals as goal
 
-pub returns-in-Refuse : goal.returns-in-Refuse
+pub returns-in-Err : goal.returns-in-Err
 unfolding refusal_in
-returns-in-Refuse c = rw (← c.plan_record.ensures, c.in-Refuse.is)
+returns-in-Err c = rw (← c.plan_record.ensures, c.in-Err.is, c.number.ensures.0)
 
-pub returns-in-Take : goal.returns-in-Take
+pub returns-in-Ok : goal.returns-in-Ok
 unfolding refusal_in
-returns-in-Take c = rw (← c.plan_record.ensures, c.in-Take.is)
+returns-in-Ok c = rw (← c.plan_record.ensures, c.in-Ok.is)

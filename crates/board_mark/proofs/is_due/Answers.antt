@@ -1,27 +1,20 @@
--- `board_mark::is_due` meets its contract.
--- Assumes nothing.
-use native.Mathlib.Omega.{arith}
+use Rattle.octets.specs.Bytes.{part}
 use Rattle.octets.proofs.Picks.{picks}
-use Rattle.table.proofs.Within.{within}
 use Rattle.board.specs.Stepped.{vote_due}
 use Rattle.board_mark.proofs.is_due.Goals as goal
 
-pub overflow_sub-b : goal.overflow_sub-b
-overflow_sub-b c =
-    let w = within _ c.requires.1.0 in omega arith
+pub returns-then-most-count : goal.returns-then-most-count
+unfolding vote_due part
+returns-then-most-count c =
+    let u = c.echoes.ensures in
+    let k = rw (u.0, u.1, u.2, u.3) at c.count.ensures in
+    rw (← k, ← c.most.ensures.0) (search picks)
 
-pub naming_count-requires : goal.naming_count-requires
-naming_count-requires c =
-    let w = within _ c.requires.1.0 in omega arith
-
-pub returns-then-b-naming_count : goal.returns-then-b-naming_count
-unfolding vote_due
-returns-then-b-naming_count c = rw (← c.naming_count.ensures) (search picks)
-
-pub naming_count-requires-2 : goal.naming_count-requires-2
-naming_count-requires-2 c =
-    let w = within _ c.requires.1.0 in omega arith
-
-pub returns : goal.returns
-unfolding vote_due
-returns c = rw (← c.naming_count.ensures, ← c.naming_count-2.ensures) (search picks)
+pub returns-else-most-count : goal.returns-else-most-count
+unfolding vote_due part
+returns-else-most-count c =
+    let u = c.echoes.ensures in
+    let k = rw (u.0, u.1, u.2, u.3) at c.count.ensures in
+    let v = c.votes.ensures in
+    let l = rw (v.0, v.1, v.2, v.3) at c.count-else-most-count.ensures in
+    rw (← k, ← l, ← c.most.ensures.0, ← c.some.ensures.0) (search picks)

@@ -1,14 +1,10 @@
--- `board_mark::is_enough` meets its contract.
--- Assumes nothing.
-use native.Mathlib.Omega.{arith}
-use Rattle.table.proofs.Within.{within}
+use Rattle.octets.specs.Bytes.{part}
 use Rattle.board.specs.Stepped.{enough_usable}
 use Rattle.board_mark.proofs.is_enough.Goals as goal
 
-pub naming_count-requires : goal.naming_count-requires
-naming_count-requires c =
-    let w = within _ c.requires.1.0 in omega arith
-
 pub returns : goal.returns
-unfolding enough_usable
-returns c = rw (← c.naming_count.ensures, ← c.fragments_needed.ensures.0)
+unfolding enough_usable part
+returns c =
+    let u = c.echoes.ensures in
+    let k = rw (u.0, u.1, u.2, u.3) at c.count.ensures in
+    rw (← k, ← c.fragments_needed.ensures.0)

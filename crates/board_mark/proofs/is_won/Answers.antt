@@ -1,18 +1,10 @@
--- `board_mark::is_won` meets its contract.
--- Assumes nothing.
-use native.Mathlib.Omega.{arith}
-use Rattle.table.proofs.Within.{within}
+use Rattle.octets.specs.Bytes.{part}
 use Rattle.board.specs.Stepped.{won}
 use Rattle.board_mark.proofs.is_won.Goals as goal
 
-pub overflow_sub-result : goal.overflow_sub-result
-overflow_sub-result c =
-    let w = within _ c.requires.1.0 in omega arith
-
-pub naming_count-requires : goal.naming_count-requires
-naming_count-requires c =
-    let w = within _ c.requires.1.0 in omega arith
-
 pub returns : goal.returns
-unfolding won
-returns c = rw (← c.naming_count.ensures)
+unfolding won part
+returns c =
+    let u = c.votes.ensures in
+    let k = rw (u.0, u.1, u.2, u.3) at c.count.ensures in
+    rw (← k, ← c.most.ensures.0)

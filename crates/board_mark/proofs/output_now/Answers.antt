@@ -1,20 +1,18 @@
 -- `board_mark::output_now` meets its contract.
 -- Assumes nothing.
+use native.Mathlib.Omega.{arith}
+use Rattle.std.proofs.lemmas.Grind.{common_steps}
 use Rattle.board.specs.Stepped.{output_now}
 use Rattle.board_mark.proofs.output_now.Goals as goal
 
 pub returns-then-m : goal.returns-then-m
 unfolding output_now
-returns-then-m c = rw c.if-m.true
+returns-then-m c = grind (arith, common_steps)
 
-pub returns-then-not-word : goal.returns-then-not-word
+pub returns-then-voted : goal.returns-then-voted
 unfolding output_now
-returns-then-not-word c = rw (c.if-m.false, c.if-not-word.true)
+returns-then-voted c = grind (arith, common_steps)
 
-pub returns-then-not-voted : goal.returns-then-not-voted
+pub returns-else-voted : goal.returns-else-voted
 unfolding output_now
-returns-then-not-voted c = rw (← c.requires.1.1.1, c.if-m.false, c.if-not-word.false, c.if-not-voted.true)
-
-pub returns : goal.returns
-unfolding output_now
-returns c = rw (← c.requires.1.1.1, ← c.is_won.ensures, c.if-m.false, c.if-not-word.false, c.if-not-voted.false)
+returns-else-voted c = grind (arith, common_steps)

@@ -1,16 +1,18 @@
 -- `board_mark::voted_now` meets its contract.
 -- Assumes nothing.
+use native.Mathlib.Omega.{arith}
+use Rattle.std.proofs.lemmas.Grind.{common_steps}
 use Rattle.board.specs.Stepped.{voted_now}
 use Rattle.board_mark.proofs.voted_now.Goals as goal
 
 pub returns-then-m : goal.returns-then-m
 unfolding voted_now
-returns-then-m c = rw c.if-m.true
+returns-then-m c = grind (arith, common_steps)
 
-pub returns-then-not-word : goal.returns-then-not-word
+pub returns-then-word : goal.returns-then-word
 unfolding voted_now
-returns-then-not-word c = rw (c.if-m.false, c.if-not-word.true)
+returns-then-word c = grind (arith, common_steps)
 
-pub returns : goal.returns
+pub returns-else-word : goal.returns-else-word
 unfolding voted_now
-returns c = rw (← c.is_due.ensures, c.if-m.false, c.if-not-word.false)
+returns-else-word c = grind (arith, common_steps)

@@ -1,3 +1,5 @@
+-- `board_plan::first_refusal` meets its contract.
+-- Assumes nothing.
 use mathlib.Core.Path.{sym, ◌∙◌}
 use borrow.Author.Tests.{lt-ltb, le-ltb}
 use lib.ListN.{length}
@@ -14,8 +16,8 @@ pub returns-then-not-is_sound : goal.returns-then-not-is_sound
 unfolding pick
 returns-then-not-is_sound c = rw (le-ltb (length c.args.s.now) fixed_bytes c.if-s-lt-FIXED_BYTES.false, ← c.is_sound.ensures, c.if-not-is_sound.true)
 
-pub short-requires : goal.short-requires
-short-requires c = rw c.read_table.ensures (sound_limits (view c.args.s.now) (sym c.is_sound.ensures ∙ c.if-not-is_sound.false))
+pub invariant_of-b : goal.invariant_of-b
+invariant_of-b c = record { within = rw c.read_table.ensures (sound_limits (view c.args.s.now) (sym c.is_sound.ensures ∙ c.if-not-is_sound.false)) }
 
 pub returns-then-short : goal.returns-then-short
 unfolding pick

@@ -1,17 +1,19 @@
 -- `board_plan::late` meets its contract.
 -- Assumes nothing.
-use borrow.Author.Tests.{eq-eqb, ne_eqb}
+use mathlib.Core.Path.{refl, sym}
+use Rattle.octets.proofs.Picks.{or_false}
+use Rattle.record.proofs.Reading.{no_send}
 use Rattle.board.specs.Planned.{is_late}
 use Rattle.board_plan.proofs.late.Goals as goal
 
 pub returns-then-m : goal.returns-then-m
 unfolding is_late
-returns-then-m c = rw c.if-m.true
+returns-then-m c = rw (c.in-Send.is, c.if-m.true) refl
 
-pub returns-then-kind-eq1 : goal.returns-then-kind-eq1
+pub returns-else-m : goal.returns-else-m
 unfolding is_late
-returns-then-kind-eq1 c = rw (c.if-m.false, eq-eqb c.args.kind 1 c.if-kind-eq1.true)
+returns-else-m c = rw (c.in-Send.is, c.if-m.false) refl
 
-pub returns-else-kind-eq1 : goal.returns-else-kind-eq1
+pub returns-in-Echo : goal.returns-in-Echo
 unfolding is_late
-returns-else-kind-eq1 c = rw (c.if-m.false, ne_eqb c.args.kind 1 c.if-kind-eq1.false)
+returns-in-Echo c = rw (no_send _ c.in-Echo.is) (sym (or_false c.args.m.done))

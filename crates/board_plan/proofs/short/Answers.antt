@@ -1,17 +1,14 @@
 -- `board_plan::short` meets its contract.
 -- Assumes nothing.
-use Rattle.octets.proofs.Picks.{picks}
+use native.Mathlib.Omega.{arith}
+use Rattle.std.proofs.lemmas.Grind.{common_steps}
 use Rattle.board.specs.Planned.{is_short}
 use Rattle.board_plan.proofs.short.Goals as goal
 
-pub returns-then-state-state_size : goal.returns-then-state-state_size
-unfolding is_short
-returns-then-state-state_size c = rw (← c.state_size.ensures) (search picks)
-
 pub returns-then-out-lt-OUT_BYTES : goal.returns-then-out-lt-OUT_BYTES
 unfolding is_short
-returns-then-out-lt-OUT_BYTES c = rw (← c.state_size.ensures) (search picks)
+returns-then-out-lt-OUT_BYTES c = grind (arith, common_steps)
 
-pub returns : goal.returns
+pub returns-else-out-lt-OUT_BYTES : goal.returns-else-out-lt-OUT_BYTES
 unfolding is_short
-returns c = rw (← c.state_size.ensures) (search picks)
+returns-else-out-lt-OUT_BYTES c = grind (arith, common_steps)

@@ -1,13 +1,14 @@
 -- `board_plan::stray` meets its contract.
 -- Assumes nothing.
-use borrow.Author.Tests.{eq-eqb, ne_eqb}
+use mathlib.Core.Path.{refl}
+use Rattle.record.proofs.Reading.{no_send}
 use Rattle.board.specs.Planned.{is_stray}
 use Rattle.board_plan.proofs.stray.Goals as goal
 
-pub returns-then-kind-eq1 : goal.returns-then-kind-eq1
+pub returns-in-Send : goal.returns-in-Send
 unfolding is_stray
-returns-then-kind-eq1 c = rw (eq-eqb c.args.kind 1 c.if-kind-eq1.true)
+returns-in-Send c = rw c.in-Send.is refl
 
-pub returns-else-kind-eq1 : goal.returns-else-kind-eq1
+pub returns-in-Echo : goal.returns-in-Echo
 unfolding is_stray
-returns-else-kind-eq1 c = rw (ne_eqb c.args.kind 1 c.if-kind-eq1.false)
+returns-in-Echo c = rw (no_send _ c.in-Echo.is) refl

@@ -2,19 +2,18 @@ use mathlib.Core.Path.{◌∙◌}
 use Rattle.board_step.proofs.Due.{deliver_asks, deliver_gives}
 use native.Mathlib.Omega.{arith}
 use Rattle.octets.specs.Bytes.{pick, part}
-use Rattle.table.proofs.Within.{within}
 use Rattle.state.specs.State.{state_size}
 use Rattle.board_step.specs.Step.{usable_for, delivered}
+use Rattle.table.proofs.Within.{within}
 use Rattle.board_step.proofs.deliver_due.Goals as goal
 
 pub returns-then-not-ends : goal.returns-then-not-ends
 unfolding delivered pick
 returns-then-not-ends c = rw c.if-not-ends.true
 
-pub naming_set-set-requires : goal.naming_set-set-requires
+pub naming_usable-set-requires : goal.naming_usable-set-requires
 unfolding state_size
-naming_set-set-requires c =
-    let w = within c.args.b c.requires.lim in (omega (arith, c.requires.room), (omega arith, (omega (arith, c.requires.root), omega (arith, w.few))))
+naming_usable-set-requires c = (omega (arith, c.requires.room), (within _ c.requires.lim).few)
 
 pub slice_bounds-deliver-count : goal.slice_bounds-deliver-count
 unfolding state_size
@@ -35,11 +34,11 @@ slice_bounds-deliver-start-2 c = omega (arith, c.requires.room)
 pub deliver-requires : goal.deliver-requires
 unfolding usable_for part
 deliver-requires c =
-    let a = c.args in let p = c.requires in let naming_set = c.naming_set-set in
-    deliver_asks a.b a.m a.s.now a.r.now a.delivery.now naming_set.result a.ends (p) c.if-not-ends.false naming_set.ensures
+    let a = c.args in let p = c.requires in let naming = c.naming_usable-set in let e = naming.ensures in
+    deliver_asks a.b a.m a.s.now a.r.now a.delivery.now naming.result a.ends (p) c.if-not-ends.false e
 
 pub returns : goal.returns
 unfolding delivered pick usable_for part
 returns c =
-    let a = c.args in let naming_set = c.naming_set-set in
-    rw c.if-not-ends.false (c.deliver.ensures ∙ deliver_gives a.b a.m a.s.now a.r.now a.delivery.now naming_set.result naming_set.ensures)
+    let a = c.args in let naming = c.naming_usable-set in let e = naming.ensures in
+    rw c.if-not-ends.false (c.deliver.ensures ∙ deliver_gives a.b a.m a.s.now a.r.now a.delivery.now naming.result e)
