@@ -13,12 +13,9 @@ use Rattle.octets.specs.Sets.{has}
 use Rattle.octets.proofs.Picks.{and_l}
 use Rattle.table.specs.Table.{is_board}
 use Rattle.table.specs.declared.Table.{Table}
-use Rattle.record.specs.declared.Read.{Read}
-use Rattle.record.specs.declared.Read.TheVariants.{Form, Fault}
+use Rattle.record.specs.Form.{Read, Form, Fault}
 use Rattle.state.specs.Kept.{member}
-use Rattle.board.specs.declared.Plan.{Plan}
-use Rattle.board.specs.declared.Plan.TheVariants.{Refuse, Take}
-use Rattle.board.specs.Planned.{is_stray}
+use Rattle.board.specs.Planned.{Plan, Refuse, Take, is_stray}
 use Rattle.notice.specs.Form.{notice_most, notice_out_bytes, parse_notice, notice_in, sort_of}
 use Rattle.notice.specs.State.{notice_state_bytes, notice_table, heard_in, notice_view, notice_kept}
 use Rattle.notice.specs.Sound.{notice_sound}

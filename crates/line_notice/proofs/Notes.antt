@@ -18,8 +18,7 @@ use Rattle.table.specs.declared.Table.{Table}
 use Rattle.table.proofs.Within.{within}
 use Rattle.code.specs.Code.{All, Byte}
 use Rattle.code.proofs.Lists.{all_append, part_bytes, two_bytes}
-use Rattle.record.specs.declared.Read.{Read}
-use Rattle.record.specs.declared.Read.TheVariants.{Form, Fault}
+use Rattle.record.specs.Form.{Read, Form, Fault}
 use Rattle.notice.specs.Form.{is_notice_kind, parse_notice, notice_record, notice_in, sort_of}
 use Rattle.notice.proofs.Facts.{notice_whole}
 use Rattle.notice.proofs.Round.{notice_length, notice_back}

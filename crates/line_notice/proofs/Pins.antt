@@ -6,8 +6,7 @@ use mathlib.Core.List.{List}
 use mathlib.Core.Option.{some}
 use Rattle.octets.specs.Bytes.{pick}
 use Rattle.deliver.specs.Delivered.{left_by}
-use Rattle.board.specs.declared.Plan.{Plan}
-use Rattle.board.specs.declared.Plan.TheVariants.{Refuse, Take}
+use Rattle.board.specs.Planned.{Plan, Refuse, Take}
 use Rattle.board_step.specs.Step.{delivered}
 use Rattle.notice.specs.Form.{notice_in}
 use Rattle.notice_step.specs.Planned.{notice_plan}

@@ -16,7 +16,7 @@ use Rattle.table.specs.declared.Table.{Table}
 use Rattle.table.proofs.Within.{within, board_number}
 use Rattle.state.specs.Kept.{member}
 use Rattle.deliver.specs.Delivered.{left_by}
-use Rattle.board.specs.declared.Plan.{Plan}
+use Rattle.board.specs.Planned.{Plan}
 use Rattle.board_step.specs.Step.{delivered}
 use Rattle.notice.specs.Form.{notice_record, notice_in}
 use Rattle.notice.specs.State.{notice_table, heard_in, notice_kept, hearing, notice_due, notice_settled}

@@ -13,8 +13,7 @@ use lib.Seq.{get_or-take, length-take-le}
 use lib.Dec.{leb, ltb}
 use Rattle.octets.specs.Bytes.{pick, two_at}
 use Rattle.octets.proofs.Picks.{and_off_l}
-use Rattle.record.specs.Form.{parse, is_kind}
-use Rattle.record.specs.declared.Read.TheVariants.{Form, Fault}
+use Rattle.record.specs.Form.{Form, Fault, parse, is_kind}
 use Rattle.record.proofs.Cuts.{Placed, need_placed, field_placed}
 use Rattle.record.proofs.KindByte.{parse_high}
 use Rattle.record.proofs.PartLaws.{kind_few}

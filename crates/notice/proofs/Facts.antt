@@ -12,7 +12,7 @@ use Rattle.octets.specs.Bytes.{pick, two_at}
 use Rattle.octets.specs.Sets.{has}
 use Rattle.octets.proofs.Picks.{and_l, and_r}
 use Rattle.record.proofs.Facts.{passed}
-use Rattle.record.specs.declared.Read.TheVariants.{Form}
+use Rattle.record.specs.Form.{Form}
 use Rattle.notice.specs.Form.{is_notice_kind, notice_most, parse_notice, notice_form}
 use Rattle.notice.specs.State.{NoticeState, heard_of}
 use Rattle.notice.specs.Sound.{notice_length_ok}

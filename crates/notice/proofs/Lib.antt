@@ -4,3 +4,4 @@ pub mod Round
 pub mod Cuts
 pub mod Kept
 pub mod Sounds
+pub mod Reading

@@ -11,7 +11,7 @@ use lib.Seq.{drop-cons, drop-length}
 use Rattle.octets.specs.Bytes.{pick, two, two_at, part}
 use Rattle.octets.proofs.Laws.{length_part}
 use Rattle.record.proofs.Round.{two_mid, drop_two, drop_part}
-use Rattle.record.specs.declared.Read.TheVariants.{Form}
+use Rattle.record.specs.Form.{Form}
 use Rattle.notice.specs.Form.{is_notice_kind, notice_most, parse_notice, notice_form, notice_record, notice_in}
 use Rattle.notice.proofs.Facts.{notice_whole, notice_known}
 

@@ -1,9 +1,7 @@
 -- Document 02, request 3: which bytes are a notice's record, and where the others are at fault, "form faults as in request 2".
 use Rattle.std.specs.Prelude.{ℕ, ◌+◌, ◌-◌, List, ◌∷◌, ◌++◌, Bool, ◌&&◌, length, get_or, leb}
 use Rattle.octets.specs.Bytes.{two_at, two, part}
-use Rattle.record.specs.Form.{need, field}
-use Rattle.record.specs.declared.Read.{Read}
-use Rattle.record.specs.declared.Read.TheVariants.{Form}
+use Rattle.record.specs.Form.{Read, Form, need, field}
 
 -- "Kinds 4 send, 5 echo, 6 vote"; "every kind that is not the broadcast's own is 21"
 unfoldable pub is_notice_kind : ℕ → Bool

@@ -3,12 +3,14 @@
 
 ghost use Rattle.std.specs.Prelude.{◌≡◌, ◌+◌, ◌≤◌, length};
 ghost use Rattle.octets.specs.Bytes.{put};
-ghost use Rattle.notice.specs.Form.{is_notice_kind, notice_most, parse_notice, notice_form, notice_record};
+ghost use Rattle.notice.specs.Form.{notice_most, parse_notice, notice_form, notice_record};
+ghost use Rattle.notice.specs.Kinds.{NoticeKinds, notice_number, notice_read_as};
 ghost use Rattle.notice.specs.State.{notice_state_bytes, heard_at, notice_table, notice_own, heard_in, heard_bytes};
 
-use octets::{copy_at, eight_at, put_eight, put_two, two_at, wide};
-use record::Read;
-use state::{Places, flag_byte};
+use octets::{copy_at, eight_at, put_eight, put_two, two_at};
+use record::{Kind, Outline, field, need};
+use refusal::{Refusal, Refused};
+use state::Places;
 use table::Table;
 
 // How many bytes a state buffer needs, whatever n is.
@@ -54,6 +56,7 @@ pub const VOTE_PLACES: Places = Places {
 };
 
 // What a notice board keeps beside its table and the notices. Board i is bit i - 1 of a set.
+// Stays: beside `state::Marks` and what reads and writes it, since the two states keep other flags and sets, at other places.
 #[derive(Clone, Copy)]
 pub struct Heard {
     pub acquired: bool,
@@ -63,83 +66,70 @@ pub struct Heard {
     pub votes: u64,
 }
 
-// Whether it is a kind of notice record: 4 a send, 5 an echo, 6 a vote.
-fn is_notice_kind(kind: usize) -> bool
-    ensures { result ≡ is_notice_kind kind }
+// The kind of a notice record by its number, 4 a send, 5 an echo, 6 a vote; else refusal 21.
+fn notice_kind(number: u32) -> Result<Kind, Refusal>
+    ensures { NoticeKinds number result }
 {
-    if kind < 4 { false } else { kind <= 6 }
+    match number {
+        4 => Ok(Kind::Send),
+        5 => Ok(Kind::Echo),
+        6 => Ok(Kind::Vote),
+        _ => Err(Refusal::Kind),
+    }
 }
 
 // Reads a notice record: a send, an echo or a vote. It has no path; the notice is at 3.
-pub fn read_notice(s: &[u8]) -> Read
-    ensures { result ≡ parse_notice s.now }
+pub fn read_notice(s: &[u8]) -> Result<Outline, Refused>
+    ensures { notice_read_as result ≡ parse_notice s.now }
 {
-    if s.len() < 1 {
-        return Read::Fault { why: 20, at: 0 };
-    }
-    let kind = s[0];
-    if !is_notice_kind(wide(kind)) {
-        return Read::Fault { why: 21, at: 0 };
-    }
-    if s.len() < 3 {
-        return Read::Fault { why: 20, at: 1 };
-    }
+    need(s, 0, 1)?;
+    let kind = notice_kind(u32::from(s[0]))?;
+    need(s, 1, 2)?;
     let len = two_at(s, 1);
-    if MOST < len {
-        return Read::Fault { why: 24, at: 1 };
-    }
-    if s.len() < 3 + len {
-        return Read::Fault { why: 20, at: 3 };
-    }
-    if 3 + len < s.len() {
-        return Read::Fault {
-            why: 25,
-            at: (3 + len) as u32,
-        };
-    }
-    Read::Form {
+    field(len <= MOST, Refusal::Fragment, 1)?;
+    need(s, 3, len)?;
+    field(s.len() <= 3 + len, Refusal::After, 3 + len)?;
+    Ok(Outline {
         kind: kind,
         nodes: 0,
         len: len,
-    }
+    })
 }
 
 // The form of a record with a notice of so many bytes, or the field at fault and where it would start.
-pub fn form_of(kind: u32, len: usize) -> Read
-    ensures { result ≡ notice_form kind len }
+// Stays: the kind is a number here: C hands it in.
+pub fn form_of(kind: u32, len: usize) -> Result<Outline, Refused>
+    ensures { notice_read_as result ≡ notice_form kind len }
 {
-    if !is_notice_kind(kind as usize) {
-        return Read::Fault { why: 21, at: 0 };
-    }
-    if MOST < len {
-        return Read::Fault { why: 24, at: 1 };
-    }
-    Read::Form {
-        kind: kind as u8,
+    let kind = notice_kind(kind)?;
+    field(len <= MOST, Refusal::Fragment, 1)?;
+    Ok(Outline {
+        kind: kind,
         nodes: 0,
         len: len,
-    }
+    })
 }
 
 // The record of a notice, written to the start of `out`.
-pub fn write_notice(out: &mut [u8], kind: u8, v: &[u8])
+pub fn write_notice(out: &mut [u8], kind: Kind, v: &[u8])
     requires { (length v.now ≤ notice_most) × (3 + length v.now ≤ length out.old) }
-    ensures { out.new ≡ put 0 (notice_record kind v.now) out.old }
+    ensures { out.new ≡ put 0 (notice_record (notice_number kind) v.now) out.old }
 {
-    out[0] = kind;
+    out[0] = 3 + kind.number();
     put_two(out, 1, v.len());
     copy_at(out, 3, v);
 }
 
 // The table in a state.
+// Stays: this and what follows, beside `state`'s: the layouts differ, and each is one look at a buffer that is then written.
 pub fn read_table(s: &[u8]) -> Table
     requires { notice_state_bytes ≤ length s.now }
     ensures { result ≡ notice_table s.now }
 {
     Table {
-        n: wide(s[0]),
-        t: wide(s[1]),
-        sender: wide(s[2]),
+        n: usize::from(s[0]),
+        t: usize::from(s[1]),
+        sender: usize::from(s[2]),
         longest: 0,
     }
 }
@@ -149,7 +139,7 @@ pub fn read_own(s: &[u8]) -> usize
     requires { notice_state_bytes ≤ length s.now }
     ensures { result ≡ notice_own s.now }
 {
-    wide(s[OWN])
+    usize::from(s[OWN])
 }
 
 // The flags and sets in a state.
@@ -171,9 +161,9 @@ pub fn write_heard(s: &mut [u8], m: Heard)
     requires { notice_state_bytes ≤ length s.old }
     ensures { s.new ≡ put heard_at (heard_bytes m) s.old }
 {
-    s[ACQUIRED] = flag_byte(m.acquired);
-    s[VOTED] = flag_byte(m.voted);
-    s[DONE] = flag_byte(m.done);
+    s[ACQUIRED] = u8::from(m.acquired);
+    s[VOTED] = u8::from(m.voted);
+    s[DONE] = u8::from(m.done);
     put_eight(s, ECHOES, m.echoes);
     put_eight(s, VOTES, m.votes);
 }

@@ -16,8 +16,7 @@ use Rattle.octets.proofs.Walk.{lt_or_le}
 use Rattle.table.specs.Table.{most_of, some_of}
 use Rattle.table.specs.declared.Table.{Table}
 use Rattle.table.proofs.Within.{Within, within}
-use Rattle.board.specs.declared.Plan.{Plan}
-use Rattle.board.specs.declared.Plan.TheVariants.{Refuse, Take}
+use Rattle.board.specs.Planned.{Plan, Refuse, Take}
 use Rattle.board_step.specs.Step.{Outcome, delivered}
 use Rattle.notice.specs.Form.{notice_record, notice_in}
 use Rattle.notice.specs.State.{notice_table, heard_in, notice_kept, hearing, notice_due, notice_won}

@@ -8,8 +8,7 @@ use native.Mathlib.Omega.{arith}
 use lib.ListN.{length}
 use Rattle.octets.proofs.Laws.{length_put}
 use Rattle.table.specs.declared.Table.{Table}
-use Rattle.board.specs.declared.Plan.{Plan}
-use Rattle.board.specs.declared.Plan.TheVariants.{Refuse, Take}
+use Rattle.board.specs.Planned.{Plan, Refuse, Take}
 use Rattle.board_step.specs.Step.{refused}
 use Rattle.code.specs.Code.{All}
 use Rattle.notice.specs.Form.{sort_of}

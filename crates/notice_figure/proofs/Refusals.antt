@@ -14,11 +14,8 @@ use Rattle.octets.proofs.Picks.{never}
 use Rattle.table.specs.Table.{is_board}
 use Rattle.table.specs.declared.Table.{Table}
 use Rattle.table.proofs.Within.{board_number}
-use Rattle.record.specs.declared.Read.{Read}
-use Rattle.record.specs.declared.Read.TheVariants.{Form, Fault}
-use Rattle.board.specs.declared.Plan.{Plan}
-use Rattle.board.specs.declared.Plan.TheVariants.{Take}
-use Rattle.board.specs.Planned.{is_stray}
+use Rattle.record.specs.Form.{Read, Form, Fault}
+use Rattle.board.specs.Planned.{Plan, Take, is_stray}
 use Rattle.notice.specs.Form.{notice_most, notice_out_bytes, parse_notice, notice_in, sort_of}
 use Rattle.notice.specs.State.{notice_state_bytes, notice_table, heard_in, notice_kept, notice_view}
 use Rattle.notice.specs.Sound.{notice_sound}

@@ -10,8 +10,7 @@ use Rattle.octets.specs.Bytes.{pick}
 use Rattle.octets.proofs.Picks.{not_none, or_false}
 use Rattle.table.specs.declared.Table.{Table}
 use Rattle.table.proofs.Within.{within}
-use Rattle.board.specs.declared.Plan.TheVariants.{Take}
-use Rattle.board.specs.Planned.{is_stray}
+use Rattle.board.specs.Planned.{Take, is_stray}
 use Rattle.board_step.specs.Step.{delivered}
 use Rattle.notice.specs.Form.{notice_record, notice_in}
 use Rattle.notice.specs.State.{notice_table, heard_in, notice_kept, hearing, notice_due, notice_won, notice_settled}

@@ -3,8 +3,7 @@ use Rattle.std.specs.Prelude.{◌≡◌, ℕ, ◌<◌, List, true, false, length
 use Rattle.std.proofs.Math.Option.{Option, none, some}
 use Rattle.table.specs.Table.{is_board}
 use Rattle.table.specs.declared.Table.{Table}
-use Rattle.record.specs.declared.Read.{Read}
-use Rattle.record.specs.declared.Read.TheVariants.{Form, Fault}
+use Rattle.record.specs.Form.{Read, Form, Fault}
 use Rattle.notice.specs.Form.{notice_most, notice_out_bytes, parse_notice, sort_of}
 use Rattle.notice_step.specs.Step.{notice_step_of}
 use Rattle.figure.specs.Run.{Handed, Party}

@@ -1,12 +1,12 @@
 -- The notices kept, counted with their lengths, are the notices counted.
 -- Assumes nothing.
 use mathlib.Core.Path.{◌≡◌, subst, ap, ◌∙◌}
-use Prim.Native.Nat.{ℕ, ◌+◌, ◌*◌, ◌≤◌, ◌<◌}
+use Prim.Native.Nat.{ℕ, ◌+◌, ◌-◌, ◌*◌, ◌≤◌, ◌<◌}
 use mathlib.Core.List.{List}
 use mathlib.Core.Bool.{Bool, true, false}
 use native.Mathlib.Omega.{arith}
 use lib.Count.{ones}
-use lib.ListN.{length, get_or}
+use lib.ListN.{length, get_or, take, drop}
 use lib.Dec.{eqb}
 use Rattle.octets.specs.Bytes.{pick, part}
 use Rattle.octets.specs.Sets.{every}
@@ -61,3 +61,8 @@ unfolding notice_board_ok
 kept_short v h i l =
     let ok : notice_board_ok v i ≡ true = every_at (notice_board_ok v) 0 64 h i (omega arith) (omega arith) in
     (length_short v 2 i (and_l (notice_length_ok v 2 i) _ ok), length_short v 3 i (and_r (notice_length_ok v 2 i) _ ok))
+
+-- the notice of a record after its length
+pub lent_notice : (len : ℕ) (r : List ℕ) → get_or r 2 0 ≡ len → take (3 + len - 2) (drop 2 r) ≡ with_length r 2
+unfolding part
+lent_notice len r e = ap (λ (m : ℕ). take m (drop 2 r)) (omega arith)

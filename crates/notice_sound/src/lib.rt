@@ -1,32 +1,77 @@
 // Whether a notice board's state is sound, and how many boards are for a notice.
 #![tactic(auto)]
 
-ghost use Rattle.std.specs.Prelude.{◌≡◌, true, ℕ, ◌+◌, ◌≤◌, ◌<◌, length, get_or, leb, eqb};
+ghost use Rattle.std.specs.Prelude.{◌≡◌, ℕ, ◌+◌, ◌≤◌, ◌<◌, length, get_or, leb, eqb};
 ghost use Rattle.octets.specs.Bytes.{pick};
 ghost use Rattle.octets.specs.Sets.{every};
-ghost use Rattle.table.specs.Table.{limits};
 ghost use Rattle.notice.specs.Form.{notice_most, notice_in};
 ghost use Rattle.notice.specs.State.{notice_state_bytes, notice_table, notice_len, notice_kept, notice_view, notice_view_of, how_many};
 ghost use Rattle.notice.specs.Sound.{heard_within, notice_board_ok, notice_quiet, notice_sound};
 
-use naming::{naming_count, reached};
+use naming::Kept;
 use notice::{
     ECHO_NOTICES, ECHO_PLACES, Heard, MOST, ROOM, VOTE_NOTICES, VOTE_PLACES, read_heard, read_own,
     read_table,
 };
-use octets::wide;
-use state_sound::implies;
-use table::{Table, below, has_board, in_limits, is_board};
+use table::{InLimits, below, has_board};
 
-// How many boards' echoes (kind 2) or votes (3) are for the notice in the record `r`, which has `len` bytes.
-pub fn how_many(s: &[u8], b: Table, m: Heard, kind: u8, r: &[u8], len: usize) -> usize
-    requires { (notice_state_bytes ≤ length s.now) × ((limits b ≡ true) × ((len ≤ notice_most) × ((3 + len ≤ length r.now) × ((get_or r.now 2 0 ≡ len) × ((i : ℕ) → i < 64 → notice_len s.now kind i ≤ notice_most))))) }
-    ensures { result ≡ how_many b m (notice_kept s.now) kind (notice_in len r.now) }
+// The notices of the echoes of a set, each after its length.
+// Stays: beside `Kept::echoes` and `Kept::votes`, which ask nothing of kept lengths.
+fn echoes(s: &[u8], b: InLimits, set: u64) -> Kept<'_>
+    requires { (notice_state_bytes ≤ length s.now) × ((i : ℕ) → i < 64 → notice_len s.now 2 i ≤ notice_most) }
+    ensures { (result.s.now ≡ s.now) × (result.p ≡ ECHO_PLACES) × (result.set ≡ set) × (result.n ≡ b.table.n) }
 {
-    if kind == 2 {
-        return naming_count(s, ECHO_PLACES, m.echoes, r, 2, b.n);
+    Kept {
+        s: s,
+        p: ECHO_PLACES,
+        set: set,
+        n: b.table.n,
     }
-    naming_count(s, VOTE_PLACES, m.votes, r, 2, b.n)
+}
+
+// The notices of its votes.
+fn votes(s: &[u8], b: InLimits, set: u64) -> Kept<'_>
+    requires { (notice_state_bytes ≤ length s.now) × ((i : ℕ) → i < 64 → notice_len s.now 3 i ≤ notice_most) }
+    ensures { (result.s.now ≡ s.now) × (result.p ≡ VOTE_PLACES) × (result.set ≡ set) × (result.n ≡ b.table.n) }
+{
+    Kept {
+        s: s,
+        p: VOTE_PLACES,
+        set: set,
+        n: b.table.n,
+    }
+}
+
+// The notice in a record `r`, which has `len` bytes, held against those that a state keeps.
+#[derive(Clone, Copy)]
+pub struct Asked<'a> {
+    pub s: &'a [u8],
+    pub b: InLimits,
+    pub m: Heard,
+    pub r: &'a [u8],
+    pub len: usize,
+    ghost long: { notice_state_bytes ≤ length s.now },
+    ghost most: { len ≤ notice_most },
+    ghost room: { 3 + len ≤ length r.now },
+    ghost count: { get_or r.now 2 0 ≡ len },
+    ghost echoes: { (i : ℕ) → i < 64 → notice_len s.now 2 i ≤ notice_most },
+    ghost votes: { (i : ℕ) → i < 64 → notice_len s.now 3 i ≤ notice_most },
+}
+
+impl Asked<'_> {
+    // How many boards' echoes are for it.
+    pub fn echoes(&self) -> usize
+        ensures { result ≡ how_many self.now.b.table self.now.m (notice_kept self.now.s.now) 2 (notice_in self.now.len self.now.r.now) }
+    {
+        echoes(self.s, self.b, self.m.echoes).count(&self.r[2..3 + self.len])
+    }
+
+    // How many boards' votes are.
+    pub fn votes(&self) -> usize
+        ensures { result ≡ how_many self.now.b.table self.now.m (notice_kept self.now.s.now) 3 (notice_in self.now.len self.now.r.now) }
+    {
+        votes(self.s, self.b, self.m.votes).count(&self.r[2..3 + self.len])
+    }
 }
 
 // Whether a kept length is in order, of a board that was heard or not.
@@ -36,58 +81,59 @@ fn length_ok(heard: bool, len: usize) -> bool
     if heard { len <= MOST } else { len == 0 }
 }
 
-// Whether the lengths kept of board i + 1's echo and vote are in order.
-fn board_ok(s: &[u8], m: Heard, i: usize) -> bool
-    requires { (notice_state_bytes ≤ length s.now) × (i < 64) }
-    ensures { result ≡ notice_board_ok (notice_view_of (notice_table s.now) m s.now) i }
-{
-    if !length_ok(has_board(m.echoes, i), wide(s[ECHO_NOTICES + ROOM * i])) {
-        return false;
-    }
-    length_ok(has_board(m.votes, i), wide(s[VOTE_NOTICES + ROOM * i]))
+// A notice board's state that is looked at: its table is within its limits.
+#[derive(Clone, Copy)]
+struct Seen<'a> {
+    s: &'a [u8],
+    b: InLimits,
+    m: Heard,
+    ghost long: { notice_state_bytes ≤ length s.now },
 }
 
-// The same of all 64 places, those above n too.
-fn boards_ok(s: &[u8], m: Heard) -> bool
-    requires { notice_state_bytes ≤ length s.now }
-    ensures { result ≡ every (notice_board_ok (notice_view_of (notice_table s.now) m s.now)) 0 64 }
-{
-    let mut i = 0;
-    while i < 64 {
-        if !board_ok(s, m, i) {
-            return false;
+impl Seen<'_> {
+    // Whether the lengths kept of board i + 1's echo and vote are in order.
+    fn board_ok(&self, i: usize) -> bool
+        requires { i < 64 }
+        ensures { result ≡ notice_board_ok (notice_view_of (notice_table self.now.s.now) self.now.m self.now.s.now) i }
+    {
+        length_ok(
+            has_board(self.m.echoes, i),
+            usize::from(self.s[ECHO_NOTICES + ROOM * i]),
+        ) && length_ok(
+            has_board(self.m.votes, i),
+            usize::from(self.s[VOTE_NOTICES + ROOM * i]),
+        )
+    }
+
+    // The same of all 64 places, those above n too.
+    fn boards_ok(&self) -> bool
+        ensures { result ≡ every (notice_board_ok (notice_view_of (notice_table self.now.s.now) self.now.m self.now.s.now)) 0 64 }
+    {
+        (0..64).all(|i| self.board_ok(i))
+    }
+
+    // Whether the sets name no board above n.
+    fn heard_within(&self) -> bool
+        ensures { result ≡ heard_within self.now.b.table self.now.m }
+    {
+        below(self.m.echoes, self.b.table.n) && below(self.m.votes, self.b.table.n)
+    }
+
+    // Whether nothing is overdue.
+    // Stays: beside `state_sound`'s, since the figures differ: a notice board has no output stage.
+    fn is_quiet(&self) -> bool
+        requires { (i : ℕ) → i < 64 → (notice_len self.now.s.now 2 i ≤ notice_most) × (notice_len self.now.s.now 3 i ≤ notice_most) }
+        ensures { result ≡ notice_quiet (notice_view_of self.now.b.table self.now.m self.now.s.now) }
+    {
+        if self.m.done {
+            true
+        } else if self.m.voted {
+            !votes(self.s, self.b, self.m.votes).reached(self.b.most())
+        } else {
+            !echoes(self.s, self.b, self.m.echoes).reached(self.b.most())
+                && !votes(self.s, self.b, self.m.votes).reached(self.b.some())
         }
-        i += 1;
     }
-    true
-}
-
-// Whether the sets name no board above n.
-fn heard_within(b: Table, m: Heard) -> bool
-    requires { limits b ≡ true }
-    ensures { result ≡ heard_within b m }
-{
-    if !below(m.echoes, b.n) {
-        return false;
-    }
-    below(m.votes, b.n)
-}
-
-// Whether nothing is overdue.
-fn is_quiet(s: &[u8], b: Table, m: Heard) -> bool
-    requires { (notice_state_bytes ≤ length s.now) × ((limits b ≡ true) × ((i : ℕ) → i < 64 → (notice_len s.now 2 i ≤ notice_most) × (notice_len s.now 3 i ≤ notice_most))) }
-    ensures { result ≡ notice_quiet (notice_view_of b m s.now) }
-{
-    if m.done {
-        return true;
-    }
-    if m.voted {
-        return !reached(s, VOTE_PLACES, m.votes, b.n, b.n - b.t);
-    }
-    if reached(s, ECHO_PLACES, m.echoes, b.n, b.n - b.t) {
-        return false;
-    }
-    !reached(s, VOTE_PLACES, m.votes, b.n, b.t + 1)
 }
 
 // Whether the state is sound.
@@ -95,22 +141,14 @@ pub fn is_sound(s: &[u8]) -> bool
     requires { notice_state_bytes ≤ length s.now }
     ensures { result ≡ notice_sound (notice_view s.now) }
 {
-    let b = read_table(s);
-    if !in_limits(b) {
+    let Ok(b) = InLimits::try_from(read_table(s)) else {
         return false;
-    }
-    if !is_board(b, read_own(s)) {
-        return false;
-    }
+    };
     let m = read_heard(s);
-    if !heard_within(b, m) {
-        return false;
-    }
-    if !implies(m.done, m.voted) {
-        return false;
-    }
-    if !boards_ok(s, m) {
-        return false;
-    }
-    is_quiet(s, b, m)
+    let x = Seen { s: s, b: b, m: m };
+    b.table.is_board(read_own(s))
+        && x.heard_within()
+        && (!m.done || m.voted)
+        && x.boards_ok()
+        && x.is_quiet()
 }

@@ -4,5 +4,6 @@ pub mod Leaves
 pub mod Stays
 pub mod Starts
 pub mod Outcomes
+pub mod Sorts
 pub mod Writes
 pub mod Settles

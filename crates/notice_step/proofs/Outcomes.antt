@@ -6,11 +6,10 @@ use mathlib.Core.List.{List}
 use mathlib.Core.Bool.{true}
 use native.Mathlib.Omega.{arith}
 use lib.ListN.{length}
-use Rattle.octets.specs.declared.Sized.{Sized}
+use Rattle.refusal.specs.declared.Sized.{Sized}
 use Rattle.octets.proofs.Laws.{length_put}
 use Rattle.table.specs.declared.Table.{Table}
-use Rattle.board.specs.declared.Plan.{Plan}
-use Rattle.board.specs.declared.Plan.TheVariants.{Refuse, Take}
+use Rattle.board.specs.Planned.{Plan, Refuse, Take}
 use Rattle.board.specs.Started.{begun}
 use Rattle.board.proofs.Taken.{Listed, listed_between}
 use Rattle.board_send.specs.Sent.{send_out}

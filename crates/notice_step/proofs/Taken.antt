@@ -13,10 +13,8 @@ use Rattle.octets.proofs.Picks.{or_none_l, or_none_r}
 use Rattle.table.specs.Table.{is_board}
 use Rattle.table.specs.declared.Table.{Table}
 use Rattle.table.proofs.Within.{within, board_number}
-use Rattle.record.specs.declared.Read.{Read}
-use Rattle.record.specs.declared.Read.TheVariants.{Form, Fault}
-use Rattle.board.specs.declared.Plan.TheVariants.{Refuse, Take}
-use Rattle.board.specs.Planned.{is_stray}
+use Rattle.record.specs.Form.{Read, Form, Fault}
+use Rattle.board.specs.Planned.{Refuse, Take, is_stray}
 use Rattle.board.proofs.Taken.{unmet, Listed, ListedBy, listed_pick}
 use Rattle.notice.specs.Form.{notice_most, notice_out_bytes, parse_notice, notice_in, sort_of}
 use Rattle.notice.specs.State.{notice_state_bytes, notice_table, heard_in, notice_view}

@@ -1,21 +1,18 @@
--- What the code writes, piece after piece, is what the definitions say at once; and a sender's record that is not refused.
+-- What the code writes, piece after piece, is what the definitions say at once.
 use mathlib.Core.Path.{◌≡◌, refl, ap, ◌∙◌}
-use Prim.Native.Nat.{ℕ, zero, suc, ◌+◌, ◌-◌, ◌*◌, ◌≤◌, ◌<◌}
+use Prim.Native.Nat.{ℕ, ◌+◌, ◌-◌, ◌*◌, ◌≤◌, ◌<◌}
 use mathlib.Core.List.{List, [], ◌∷◌}
-use mathlib.Core.Bool.{Bool, true, false, not}
+use mathlib.Core.Bool.{Bool, true, false}
 use native.Mathlib.Omega.{arith}
-use borrow.Author.Tests.{ltb-false}
-use lib.Dec.{eqb, ltb}
+use lib.Dec.{eqb}
 use lib.ListN.{length, set, replicate, take, drop}
-use Rattle.octets.specs.Answers.{sized}
+use Rattle.refusal.specs.Answers.{sized}
 use Rattle.octets.specs.Bytes.{pick, part, put}
 use Rattle.octets.proofs.Laws.{put_one, put_next, length_part}
-use Rattle.octets.proofs.Picks.{none_applies}
-use Rattle.table.specs.Table.{limits, is_board}
 use Rattle.table.specs.declared.Table.{Table}
 use Rattle.board.proofs.Fresh.{head}
 use Rattle.board_send.specs.Sent.{send_out}
-use Rattle.notice.specs.Form.{notice_most, notice_out_bytes, notice_record, notice_in}
+use Rattle.notice.specs.Form.{notice_record, notice_in}
 use Rattle.notice.specs.State.{notice_state_bytes, echo_notices, vote_notices, place_at}
 use Rattle.notice.proofs.Round.{notice_length}
 use Rattle.notice_step.specs.Sent.{notice_send_refusal, notice_send_by, notice_send_of}
@@ -51,26 +48,7 @@ slice_notice k f r new o e = let z : 3 + f - 3 ≡ f = omega arith in rw z at e
 
 -- ---- the sender's record
 
-pub record NoticeSendTaken (notice out : List ℕ) : Type 0 where
-  pub room : notice_out_bytes ≤ length out
-  pub fits : length notice ≤ notice_most
-
 module _ (b : Table) (notice : List ℕ) (to : ℕ) (out : List ℕ) where
-  pub notice_send_taken : notice_send_refusal b notice to out ≡ 0 → NoticeSendTaken notice out
-  unfolding notice_send_refusal
-  notice_send_taken e =
-      let (e1, f1) = none_applies (not (limits b)) 0 _ e in
-      let (e2, f2) = none_applies (ltb (length out) notice_out_bytes) 1 _ f1 in
-      let (e3, f3) = none_applies (not (is_board b to)) 3 _ f2 in
-      let (e4, f4) = none_applies (ltb notice_most (length notice)) 12 _ f3 in
-      record { room = ltb-false _ _ e2; fits = ltb-false _ _ e4 }
-
-  -- what the code does once it knows the refusal
-  pub notice_send_refused : (q : ℕ) → (q ≡ 0 → ⊥) → q ≡ notice_send_refusal b notice to out → send_out (sized q 0) out ≡ notice_send_of b notice to out
-  unfolding notice_send_of notice_send_by
-  notice_send_refused zero some e = absurd (some refl)
-  notice_send_refused (suc q) some e = ap (λ (q : ℕ). notice_send_by q notice out) e
-
   pub notice_send_made : (new : List ℕ) → notice_send_refusal b notice to out ≡ 0 → new ≡ put 0 (notice_record 4 notice) out
       → send_out (sized 0 (3 + length notice)) new ≡ notice_send_of b notice to out
   unfolding notice_send_of notice_send_by

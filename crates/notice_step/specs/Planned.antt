@@ -4,11 +4,8 @@ use Rattle.octets.specs.Bytes.{pick}
 use Rattle.octets.specs.Sets.{has}
 use Rattle.table.specs.Table.{is_board}
 use Rattle.table.specs.declared.Table.{Table}
-use Rattle.record.specs.declared.Read.{Read}
-use Rattle.record.specs.declared.Read.TheVariants.{Form, Fault}
-use Rattle.board.specs.declared.Plan.{Plan}
-use Rattle.board.specs.declared.Plan.TheVariants.{Refuse, Take}
-use Rattle.board.specs.Planned.{is_stray}
+use Rattle.record.specs.Form.{Read, Form, Fault}
+use Rattle.board.specs.Planned.{Plan, Refuse, Take, is_stray}
 use Rattle.notice.specs.Form.{notice_most, notice_out_bytes, parse_notice, sort_of}
 use Rattle.notice.specs.State.{notice_state_bytes, notice_table, heard_in, notice_view, heard_of}
 use Rattle.notice.specs.Sound.{notice_sound}

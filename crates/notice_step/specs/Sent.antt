@@ -1,7 +1,7 @@
 -- Document 02, request 3: the sender's record for one board, "1, 2, 4, 13 (above 64 bytes)".
 use Rattle.std.specs.Prelude.{not, List, ℕ, zero, suc, ltb, length}
 use Rattle.octets.specs.Bytes.{pick, put}
-use Rattle.octets.specs.Answers.{sized}
+use Rattle.refusal.specs.Answers.{sized}
 use Rattle.table.specs.Table.{limits, is_board}
 use Rattle.table.specs.declared.Table.{Table}
 use Rattle.board_send.specs.Sent.{SendOut, send_out}

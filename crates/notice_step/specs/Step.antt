@@ -2,8 +2,7 @@
 use Rattle.std.specs.Prelude.{ℕ, ◌-◌, List, [], ◌∷◌, Bool, not, ◌&&◌, ◌||◌, length, eqb}
 use Rattle.std.proofs.Math.Option.{some}
 use Rattle.octets.specs.Bytes.{pick, put}
-use Rattle.board.specs.declared.Plan.{Plan}
-use Rattle.board.specs.declared.Plan.TheVariants.{Refuse, Take}
+use Rattle.board.specs.Planned.{Plan, Refuse, Take}
 use Rattle.board_step.specs.Step.{Outcome, outcome, stepped, refused, delivered}
 use Rattle.notice.specs.Form.{notice_record, notice_in}
 use Rattle.notice.specs.State.{heard_at, place_at, notice_table, heard_in, heard_bytes, notice_kept, hearing, notice_due, notice_won, notice_settled}

@@ -3,4 +3,4 @@ use Rattle.notice.proofs.read_own.Goals as goal
 
 pub returns : goal.returns
 unfolding notice_own
-returns c = c.wide.ensures.0
+returns c = c.from.ensures

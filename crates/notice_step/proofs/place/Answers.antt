@@ -1,11 +1,11 @@
-use borrow.Author.Tests.{ne_eqb}
+use Rattle.notice_step.proofs.Sorts.{no_echo}
 use Rattle.octets.specs.Bytes.{pick}
 use Rattle.notice_step.proofs.place.Goals as goal
 
-pub returns-then-kind-eq2 : goal.returns-then-kind-eq2
+pub returns-in-Echo : goal.returns-in-Echo
 unfolding pick
-returns-then-kind-eq2 c = rw c.if-kind-eq2.true
+returns-in-Echo c = rw c.in-Echo.is
 
-pub returns-else-kind-eq2 : goal.returns-else-kind-eq2
+pub returns-in-Send : goal.returns-in-Send
 unfolding pick
-returns-else-kind-eq2 c = rw (ne_eqb c.args.kind 2 c.if-kind-eq2.false)
+returns-in-Send c = rw (no_echo _ c.in-Send.is)

@@ -10,21 +10,14 @@ unfolding said_by pick
 returns-then-echo c =
     let args = c.args in
     let pre = c.requires in
-    let if1 = c.if-echo in
-    rw if1.true
-    (sym (said_length 5 args.len args.r.now pre.2), slice_notice 5 args.len args.r.now _ _ c.write_notice.ensures)
+    rw c.if-echo.true (sym (said_length 5 args.len args.r.now pre.2), slice_notice 5 args.len args.r.now _ _ c.write_notice.ensures)
 
 pub returns-then-vote : goal.returns-then-vote
 unfolding said_by pick
 returns-then-vote c =
     let args = c.args in
     let pre = c.requires in
-    let if1 = c.if-echo in
-    let if2 = c.if-vote in
-    rw (
-      if1.false,
-      if2.true,
-    )
+    rw (c.if-echo.false, c.if-vote.true)
     (sym (said_length 6 args.len args.r.now pre.2), slice_notice 6 args.len args.r.now _ _ c.write_notice-then-vote.ensures)
 
 pub returns : goal.returns

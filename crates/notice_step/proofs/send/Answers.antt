@@ -1,23 +1,30 @@
-use mathlib.Core.Path.{sym, ◌∙◌}
+use mathlib.Core.Path.{◌≡◌}
 use native.Mathlib.Omega.{arith}
-use Rattle.notice_step.proofs.Writes.{notice_send_taken, notice_send_refused, notice_send_made}
+use Rattle.std.proofs.lemmas.Grind.{common_steps}
+use Rattle.octets.specs.Bytes.{pick}
+use Rattle.notice_step.specs.Sent.{notice_send_refusal, notice_send_by, notice_send_of}
+use Rattle.notice_step.proofs.Writes.{notice_send_made}
 use Rattle.notice_step.proofs.send.Goals as goal
 
-pub returns-then-q-ne0 : goal.returns-then-q-ne0
-returns-then-q-ne0 c = notice_send_refused _ _ _ _ _ c.if-q-ne0.true c.send_refusal-q.ensures
+pub returns-in_err-b : goal.returns-in_err-b
+unfolding notice_send_of notice_send_by notice_send_refusal pick
+returns-in_err-b c = grind (arith, common_steps)
 
-pub write_notice-requires : goal.write_notice-requires
-write_notice-requires c =
-    let t = notice_send_taken _ _ _ _ (sym c.send_refusal-q.ensures ∙ c.if-q-ne0.false) in
-    (t.fits, omega (arith, t.room, t.fits))
+pub returns-then-out-lt-OUT_BYTES : goal.returns-then-out-lt-OUT_BYTES
+unfolding notice_send_of notice_send_by notice_send_refusal pick
+returns-then-out-lt-OUT_BYTES c = grind (arith, common_steps)
 
-pub overflow_cast-result : goal.overflow_cast-result
-overflow_cast-result c =
-    let send_refusal = c.send_refusal-q in
-    let t = notice_send_taken _ _ _ _ (sym send_refusal.ensures ∙ c.if-q-ne0.false) in
-    omega (arith, t.fits)
+pub returns-then-not-is_board : goal.returns-then-not-is_board
+unfolding notice_send_of notice_send_by notice_send_refusal pick
+returns-then-not-is_board c = grind (arith, common_steps)
+
+pub returns-then-notice-gt-MOST : goal.returns-then-notice-gt-MOST
+unfolding notice_send_of notice_send_by notice_send_refusal pick
+returns-then-notice-gt-MOST c = grind (arith, common_steps)
 
 pub returns : goal.returns
+unfolding notice_send_refusal pick
 returns c =
-    let send_refusal = c.send_refusal-q in
-    notice_send_made _ _ _ _ _ (sym send_refusal.ensures ∙ c.if-q-ne0.false) c.write_notice.ensures
+    let a = c.args in
+    let none : notice_send_refusal a.b a.notice.now a.to a.out.now ≡ 0 = grind (arith, common_steps) in
+    notice_send_made _ _ _ _ _ none c.write_notice.ensures

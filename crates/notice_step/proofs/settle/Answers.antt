@@ -1,6 +1,8 @@
+use native.Mathlib.Omega.{arith}
+use Rattle.std.proofs.lemmas.Grind.{common_steps}
 use Rattle.notice.specs.State.{notice_settled}
 use Rattle.notice_step.proofs.settle.Goals as goal
 
 pub returns : goal.returns
 unfolding notice_settled
-returns c = rw (c.done_now-done.ensures, c.voted_now-voted.ensures)
+returns c = grind (arith, common_steps)
