@@ -12,9 +12,7 @@ use lib.ListN.{length}
 use Rattle.octets.specs.Bytes.{pick, part, two}
 use Rattle.code.specs.Code.{All, Byte}
 use Rattle.code.proofs.Lists.{all_append, part_bytes, two_bytes}
-use Rattle.record.specs.Form.{parse, is_kind, nodes_most, path_ok, fragment_ok, record_of, form_of}
-use Rattle.record.specs.declared.Read.{Read}
-use Rattle.record.specs.declared.Read.TheVariants.{Form, Fault}
+use Rattle.record.specs.Form.{Read, Form, Fault, parse, is_kind, nodes_most, path_ok, fragment_ok, record_of, form_of}
 use Rattle.record.proofs.PartLaws.{Fits, fits, known, kind_few, parts_read, parts_pass}
 use Rattle.record.proofs.Sections.{record_root, record_path, record_fragment}
 use Rattle.line.proofs.Tests.{off, none_some}

@@ -14,9 +14,7 @@ use Rattle.tree.specs.Strings.{check_strings, tree_strings}
 use Rattle.code_encode.specs.Message.{fragment_for}
 use Rattle.code_through.specs.Through.{marks}
 use Rattle.deliver.specs.Delivered.{read_from, result_of}
-use Rattle.record.specs.Form.{parse, record_of}
-use Rattle.record.specs.declared.Read.{Read}
-use Rattle.record.specs.declared.Read.TheVariants.{Form, Fault}
+use Rattle.record.specs.Form.{Read, Form, Fault, parse, record_of}
 use Rattle.line.specs.Bytes.{bytes}
 use Rattle.line_fragments.specs.Code.{Code}
 use Rattle.line_fragments.specs.Step.{Record, send, echo, vote, Line}

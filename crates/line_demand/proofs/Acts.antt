@@ -13,18 +13,14 @@ use Rattle.octets.proofs.Laws.{length_part}
 use Rattle.octets.proofs.Picks.{and_l}
 use Rattle.table.specs.Table.{s_max, is_board}
 use Rattle.table.specs.declared.Table.{Table}
-use Rattle.record.specs.Form.{out_bytes, parse, fragment_ok}
-use Rattle.record.specs.declared.Read.{Read}
-use Rattle.record.specs.declared.Read.TheVariants.{Form, Fault}
+use Rattle.record.specs.Form.{Read, Form, Fault, out_bytes, parse, fragment_ok}
 use Rattle.record.proofs.Facts.{Whole, whole}
 use Rattle.record.proofs.PartLaws.{kind_few}
 use Rattle.state.specs.State.{fixed_bytes, view, state_size, table_of, marks_of}
 use Rattle.state.specs.Kept.{member}
 use Rattle.state.specs.Sound.{sound}
 use Rattle.state.specs.declared.Marks.{Marks}
-use Rattle.board.specs.declared.Plan.{Plan}
-use Rattle.board.specs.declared.Plan.TheVariants.{Refuse, Take}
-use Rattle.board.specs.Planned.{is_short, is_stray, is_late, is_again, by_marks, by_form, plan_by, plan_of}
+use Rattle.board.specs.Planned.{Plan, Refuse, Take, is_short, is_stray, is_late, is_again, by_marks, by_form, plan_by, plan_of}
 use Rattle.board.specs.Stepped.{record_root, record_path, record_fragment}
 use Rattle.line.specs.Run.{hand}
 use Rattle.line.proofs.Tests.{off}

@@ -9,8 +9,7 @@ use lib.Dec.{eqb}
 use Rattle.octets.specs.Bytes.{pick}
 use Rattle.table.specs.declared.Table.{Table}
 use Rattle.state.specs.State.{table_of, own_of, marks_of}
-use Rattle.board.specs.declared.Plan.{Plan}
-use Rattle.board.specs.Planned.{plan_of}
+use Rattle.board.specs.Planned.{Plan, plan_of}
 use Rattle.board.specs.Stepped.{record_root, ends_now}
 use Rattle.board.proofs.Taken.{Taken, taken}
 use Rattle.board_step.specs.Step.{place_of, good, said_by, taken_of, by_plan}

@@ -19,8 +19,7 @@ use Rattle.table.proofs.Within.{board_number}
 use Rattle.state.proofs.Facts.{Sounds, sounds}
 use Rattle.state.proofs.Masks.{masked_same}
 use Rattle.state.proofs.Writes.{Fit, rest_kept, fragment_kept, marks_back}
-use Rattle.board.specs.declared.Plan.{Plan}
-use Rattle.board.specs.Planned.{is_again, plan_of}
+use Rattle.board.specs.Planned.{Plan, is_again, plan_of}
 use Rattle.board.specs.Stepped.{record_root, record_path, record_fragment, marked, kept, with_flags, settled_to, leaves}
 use Rattle.board.proofs.Taken.{Taken, taken, fragment_room}
 use Rattle.board.proofs.StepSound.{fit, settled_sounds}

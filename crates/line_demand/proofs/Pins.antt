@@ -7,7 +7,7 @@ use mathlib.Core.Option.{some}
 use Rattle.octets.specs.Bytes.{pick}
 use Rattle.table.specs.Table.{s_max}
 use Rattle.state.specs.State.{table_of, marks_of}
-use Rattle.board.specs.declared.Plan.TheVariants.{Refuse, Take}
+use Rattle.board.specs.Planned.{Refuse, Take}
 use Rattle.board.specs.Stepped.{record_root, marked, kept, ends_now}
 use Rattle.board_step.specs.Step.{good}
 use Rattle.line.specs.Run.{hand, tell}

@@ -11,8 +11,7 @@ use Rattle.octets.specs.Bytes.{pick, same}
 use Rattle.table.specs.declared.Table.{Table}
 use Rattle.record.specs.Form.{record_of}
 use Rattle.state.specs.State.{table_of, own_of, marks_of}
-use Rattle.board.specs.declared.Plan.{Plan}
-use Rattle.board.specs.Planned.{plan_of}
+use Rattle.board.specs.Planned.{Plan, plan_of}
 use Rattle.board.specs.Stepped.{record_root, record_path, record_fragment, marked, vote_due, voted_now}
 use Rattle.board.proofs.Taken.{Taken, taken}
 use Rattle.board_step.specs.Asked.{Formed}

@@ -11,8 +11,7 @@ use Rattle.table.specs.declared.Table.{Table}
 use Rattle.record.specs.Form.{parse}
 use Rattle.state.specs.State.{view, marks_of}
 use Rattle.state.specs.Sound.{sound}
-use Rattle.board.specs.declared.Plan.TheVariants.{Refuse}
-use Rattle.board.specs.Planned.{by_form, plan_of}
+use Rattle.board.specs.Planned.{Refuse, by_form, plan_of}
 use Rattle.line.specs.Boards.{Board}
 use Rattle.line.specs.Run.{Machine, hand, Run, state}
 use Rattle.line.specs.Project.{project}

@@ -13,8 +13,7 @@ use Rattle.code.specs.Block.{rows}
 use Rattle.tree.specs.Tree.{tree_of, depth}
 use Rattle.record.specs.Form.{parse}
 use Rattle.state.specs.State.{marks_of}
-use Rattle.board.specs.declared.Plan.TheVariants.{Refuse}
-use Rattle.board.specs.Planned.{is_stray, is_late, is_again, by_marks, by_form, plan_of}
+use Rattle.board.specs.Planned.{Refuse, is_stray, is_late, is_again, by_marks, by_form, plan_of}
 use Rattle.board_send.specs.Sent.{send_record}
 use Rattle.board_send.proofs.Sends.{send_form}
 use Rattle.board_step.specs.Step.{refused, by_plan, step_of}

@@ -10,9 +10,7 @@ use Rattle.sha256.specs.Sha256.{sha256}
 use Rattle.tree.specs.Strings.{check_strings, tree_strings}
 use Rattle.code_encode.specs.Message.{fragment_for}
 use Rattle.state.specs.State.{table_of, marks_of}
-use Rattle.board.specs.declared.Plan.{Plan}
-use Rattle.board.specs.declared.Plan.TheVariants.{Refuse, Take}
-use Rattle.board.specs.Planned.{plan_of}
+use Rattle.board.specs.Planned.{Plan, Refuse, Take, plan_of}
 use Rattle.board.specs.Stepped.{record_root, record_path, record_fragment, marked, kept, ends_now}
 use Rattle.board_step.specs.Step.{place_of, good, usable_for, kept_of}
 use Rattle.line.specs.Run.{Input, hand, tell, Run}

@@ -7,9 +7,7 @@ use borrow.Author.Tests.{le-ltb}
 use lib.ListN.{length}
 use Rattle.table.specs.declared.Table.{Table}
 use Rattle.record.specs.Form.{out_bytes}
-use Rattle.board.specs.declared.Plan.{Plan}
-use Rattle.board.specs.declared.Plan.TheVariants.{Refuse, Take}
-use Rattle.board.specs.Planned.{is_short, plan_by, plan_of}
+use Rattle.board.specs.Planned.{Plan, Refuse, Take, is_short, plan_by, plan_of}
 use Rattle.board_step.specs.Step.{Outcome, taken_of, by_plan, step_of}
 use Rattle.line.specs.Bytes.{bytes}
 use Rattle.line_fragments.specs.Step.{BoardState}

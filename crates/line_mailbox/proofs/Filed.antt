@@ -14,9 +14,7 @@ use Rattle.octets.proofs.Laws.{length_part}
 use Rattle.octets.proofs.Picks.{never}
 use Rattle.record.specs.Form.{out_bytes, vote_bytes}
 use Rattle.state.specs.declared.Marks.{Marks}
-use Rattle.board.specs.declared.Plan.{Plan}
-use Rattle.board.specs.declared.Plan.TheVariants.{Refuse, Take}
-use Rattle.board.specs.Planned.{plan_of}
+use Rattle.board.specs.Planned.{Plan, Refuse, Take, plan_of}
 use Rattle.board.proofs.Taken.{Taken, taken}
 use Rattle.deliver.specs.Delivered.{left_by}
 use Rattle.board_step.specs.Asked.{out_room}
