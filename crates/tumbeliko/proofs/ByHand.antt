@@ -7,10 +7,10 @@ use Prim.Native.Nat.{ℕ, zero, suc, ◌*◌, ◌<◌, ◌≤◌}
 use native.Mathlib.Omega.{arith}
 use borrow.Author.Tests.{le-ltb}
 use lib.ListN.{length}
-use Rattle.octets.specs.Answers.{sized}
+use Rattle.refusal.specs.Answers.{sized}
 use Rattle.octets.specs.Bytes.{pick, part, put, tab, four_at}
 use Rattle.octets.specs.Sets.{has}
-use Rattle.octets.specs.declared.Sized.{Sized}
+use Rattle.refusal.specs.declared.Sized.{Sized}
 use Rattle.octets.proofs.Picks.{never}
 use Rattle.record.specs.Form.{out_bytes, is_kind, nodes_most, path_ok, fragment_ok, form_of, answered}
 use Rattle.record.proofs.Round.{vote_length}

@@ -7,8 +7,7 @@ use native.Mathlib.Omega.{arith}
 use borrow.Author.Tests.{lt-ltb, le-ltb}
 use lib.ListN.{length}
 use Rattle.octets.specs.Bytes.{pick, put}
-use Rattle.record.specs.Form.{answered}
-use Rattle.record.specs.declared.Read.TheVariants.{Form, Fault}
+use Rattle.record.specs.Form.{Form, Fault, answered}
 use Rattle.record.specs.declared.Written.{Written}
 use Rattle.notice.specs.Form.{notice_most, notice_out_bytes, parse_notice, notice_form, notice_record}
 use Rattle.notice.proofs.Facts.{notice_known}

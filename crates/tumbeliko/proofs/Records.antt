@@ -7,8 +7,7 @@ use borrow.Author.Tests.{lt-ltb, le-ltb}
 use lib.ListN.{length}
 use Rattle.octets.specs.Bytes.{pick, put}
 use Rattle.record.specs.Form as F
-use Rattle.record.specs.Form.{out_bytes, parse, record_of, form_of, answered}
-use Rattle.record.specs.declared.Read.TheVariants.{Form, Fault}
+use Rattle.record.specs.Form.{Form, Fault, out_bytes, parse, record_of, form_of, answered}
 use Rattle.record.specs.declared.Written.{Written}
 use Rattle.record.proofs.PartLaws.{known, parts_fit}
 use Rattle.record.proofs.Sections.{record_length}

@@ -1,9 +1,7 @@
 -- What reading and writing a notice record answer and leave, for every input: document 02, request 3; the writer looks at its buffer first.
 use Rattle.std.specs.Prelude.{List, ℕ, ltb, length}
 use Rattle.octets.specs.Bytes.{pick, put}
-use Rattle.record.specs.Form.{answered}
-use Rattle.record.specs.declared.Read.{Read}
-use Rattle.record.specs.declared.Read.TheVariants.{Form, Fault}
+use Rattle.record.specs.Form.{Read, Form, Fault, answered}
 use Rattle.notice.specs.Form.{notice_out_bytes, notice_form, notice_record}
 use Rattle.tumbeliko.specs.Records.{Wrote, wrote}
 use Rattle.tumbeliko.specs.declared.Notice.{Notice}

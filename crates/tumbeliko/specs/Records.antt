@@ -1,9 +1,7 @@
 -- What reading and writing a record answer and leave, for every input: document 02, request 2; the writer looks at its buffer first.
 use Rattle.std.specs.Prelude.{List, ℕ, ltb, length}
 use Rattle.octets.specs.Bytes.{pick, put}
-use Rattle.record.specs.Form.{out_bytes, record_of, form_of, answered}
-use Rattle.record.specs.declared.Read.{Read}
-use Rattle.record.specs.declared.Read.TheVariants.{Form, Fault}
+use Rattle.record.specs.Form.{Read, Form, Fault, out_bytes, record_of, form_of, answered}
 use Rattle.record.specs.declared.Written.{Written}
 use Rattle.tumbeliko.specs.declared.Parts.{Parts}
 

@@ -3,6 +3,7 @@
 #![tactic(auto)]
 
 ghost use Rattle.std.specs.Prelude.{◌≡◌};
+ghost use Rattle.refusal.specs.Numbers.{refused};
 ghost use Rattle.record.specs.Form.{parse, answered};
 ghost use Rattle.tree.specs.Check.{path_correct};
 ghost use Rattle.code_calls.specs.Hashing.{hash_of};
@@ -24,11 +25,12 @@ ghost use Rattle.tumbeliko.specs.Notices.{notice_parts_of, notice_write_of};
 use board_mailbox::Mailed;
 use board_step::Stepped;
 use code_calls::Digest;
-use octets::Sized;
-use record::{Read, Written};
+use record::Written;
+use refusal::{Refusal, Sized};
 use table::Table;
 
 // The parts of a record: the refusal's number, or 0, and the place of the field at fault; the kind, the path's nodes and the fragment's bytes.
+// Stays: C is given numbers.
 #[repr(C)]
 #[derive(Clone, Copy)]
 pub struct Parts {
@@ -40,6 +42,7 @@ pub struct Parts {
 }
 
 // The parts of a notice record: the refusal's number, or 0, and the place of the field at fault; the kind and the notice's bytes.
+// Stays: C is given numbers.
 #[repr(C)]
 #[derive(Clone, Copy)]
 pub struct Notice {
@@ -72,12 +75,22 @@ fn answered(number: u32, offset: u32, length: u32) -> Written
     }
 }
 
+// The answer of a start: 0, or a refusal's number.
+fn number(started: Result<(), Refusal>) -> u32
+    ensures { result ≡ refused started }
+{
+    match started {
+        Ok(()) => 0,
+        Err(e) => e.number(),
+    }
+}
+
 // SHA-256 of at most 65,536 bytes; 15.
 #[unsafe(no_mangle)]
 pub extern "C" fn tumbeliko_hash(string: &[u8]) -> Digest
     ensures { result ≡ hash_of string.now }
 {
-    code_calls::hash(string)
+    Digest::from(code_calls::hash(string))
 }
 
 // Whether the path is correct for the fragment of a board of n, under the root.
@@ -109,7 +122,7 @@ pub extern "C" fn tumbeliko_encode(
     ensures { encoded result area.new root.new paths.new
         ≡ encode_of (table_from n t sender longest) message.now area.old root.old paths.old }
 {
-    code_calls::encode(table(n, t, sender, longest), message, area, root, paths)
+    Sized::from(code_calls::encode(table(n, t, sender, longest), message, area, root, paths))
 }
 
 // The block whose fragments are all those marked; 1, 2, 4, 7, 10, 11.
@@ -126,7 +139,7 @@ pub extern "C" fn tumbeliko_rebuild(
 ) -> Sized
     ensures { Rebuilds (table_from n t sender longest) marked lengths.now area.now block.old result block.new }
 {
-    code_calls::rebuild(table(n, t, sender, longest), marked, lengths, area, block)
+    Sized::from(code_calls::rebuild(table(n, t, sender, longest), marked, lengths, area, block))
 }
 
 // The message that stands in a block; 1, 2, 12.
@@ -141,25 +154,26 @@ pub extern "C" fn tumbeliko_read_block(
 ) -> Sized
     ensures { read_out result message.new ≡ read_of (table_from n t sender longest) block.now message.old }
 {
-    code_calls::read_block(table(n, t, sender, longest), block, message)
+    Sized::from(code_calls::read_block(table(n, t, sender, longest), block, message))
 }
 
 // The parts of a record; 20 to 25.
+// Stays: C's numbers.
 #[unsafe(no_mangle)]
 pub extern "C" fn tumbeliko_read_record(record: &[u8]) -> Parts
     ensures { result ≡ parts_of (parse «record».now) }
 {
     match record::read_record(record) {
-        Read::Form { kind, nodes, len } => Parts {
+        Ok(o) => Parts {
             number: 0,
             offset: 0,
-            kind: kind as u32,
-            nodes: nodes as u32,
-            fragment_length: len as u32,
+            kind: u32::from(o.kind.number()),
+            nodes: o.nodes as u32,
+            fragment_length: o.len as u32,
         },
-        Read::Fault { why, at } => Parts {
-            number: why,
-            offset: at,
+        Err(e) => Parts {
+            number: e.why.number(),
+            offset: e.at,
             kind: 0,
             nodes: 0,
             fragment_length: 0,
@@ -182,15 +196,16 @@ pub extern "C" fn tumbeliko_write_record(
         return answered(2, 0, 0);
     }
     match record::form_of(kind, root.len(), path.len(), fragment.len()) {
-        Read::Fault { why, at } => answered(why, at, 0),
-        Read::Form { kind, nodes, len } => {
-            record::write_parts(out, kind, root, nodes, path, fragment);
-            answered(0, 0, (39 + 32 * nodes + len) as u32)
+        Err(e) => answered(e.why.number(), e.at, 0),
+        Ok(o) => {
+            record::write_parts(out, o.kind, root, o.nodes, path, fragment);
+            answered(0, 0, (39 + 32 * o.nodes + o.len) as u32)
         }
     }
 }
 
 // A fresh state; 1, 2.
+// Stays: C is given the number.
 #[unsafe(no_mangle)]
 pub extern "C" fn tumbeliko_start(
     n: u32,
@@ -202,7 +217,7 @@ pub extern "C" fn tumbeliko_start(
 ) -> u32
     ensures { begun result state.new ≡ start_of (table_from n t sender longest) own state.old }
 {
-    board::start(n, t, sender, longest, own, state)
+    number(board::start(table(n, t, sender, longest), own as usize, state))
 }
 
 // One record through a board's step; 2 at once for a state under 4,608 bytes, then 3, 2, 4, 20 to 25, 6, 7, 8, 9.
@@ -249,28 +264,25 @@ pub extern "C" fn tumbeliko_send(
 ) -> Sized
     ensures { send_out result out.new ≡ send_of (table_from n t sender longest) message.now to out.old }
 {
-    board_send::send(table(n, t, sender, longest), message, to as usize, out)
+    Sized::from(board_send::send(table(n, t, sender, longest), message, to as usize, out))
 }
 
 // The parts of a notice record; 20, 21, 24, 25. The notice is at byte 3.
+// Stays: C's numbers.
 #[unsafe(no_mangle)]
 pub extern "C" fn tumbeliko_read_notice(record: &[u8]) -> Notice
     ensures { result ≡ notice_parts_of (parse_notice «record».now) }
 {
     match notice::read_notice(record) {
-        Read::Form {
-            kind,
-            nodes: _,
-            len,
-        } => Notice {
+        Ok(o) => Notice {
             number: 0,
             offset: 0,
-            kind: kind as u32,
-            length: len as u32,
+            kind: 3 + u32::from(o.kind.number()),
+            length: o.len as u32,
         },
-        Read::Fault { why, at } => Notice {
-            number: why,
-            offset: at,
+        Err(e) => Notice {
+            number: e.why.number(),
+            offset: e.at,
             kind: 0,
             length: 0,
         },
@@ -278,6 +290,7 @@ pub extern "C" fn tumbeliko_read_notice(record: &[u8]) -> Notice
 }
 
 // A record of this notice; 2, 21, 24.
+// Stays: C's numbers.
 #[unsafe(no_mangle)]
 pub extern "C" fn tumbeliko_write_notice(kind: u32, notice: &[u8], out: &mut [u8]) -> Written
     ensures { wrote result out.new ≡ notice_write_of kind notice.now out.old }
@@ -286,19 +299,16 @@ pub extern "C" fn tumbeliko_write_notice(kind: u32, notice: &[u8], out: &mut [u8
         return answered(2, 0, 0);
     }
     match notice::form_of(kind, notice.len()) {
-        Read::Fault { why, at } => answered(why, at, 0),
-        Read::Form {
-            kind,
-            nodes: _,
-            len,
-        } => {
-            notice::write_notice(out, kind, notice);
-            answered(0, 0, (3 + len) as u32)
+        Err(e) => answered(e.why.number(), e.at, 0),
+        Ok(o) => {
+            notice::write_notice(out, o.kind, notice);
+            answered(0, 0, (3 + o.len) as u32)
         }
     }
 }
 
 // A fresh state of a notice board; 1, 2.
+// Stays: C is given the number.
 #[unsafe(no_mangle)]
 pub extern "C" fn tumbeliko_notice_start(
     n: u32,
@@ -309,7 +319,7 @@ pub extern "C" fn tumbeliko_notice_start(
 ) -> u32
     ensures { begun result state.new ≡ notice_start_of (table_from n t sender 0) own state.old }
 {
-    notice_step::start(table(n, t, sender, 0), own as usize, state)
+    number(notice_step::start(table(n, t, sender, 0), own as usize, state))
 }
 
 // One record through a notice board's step; 2 at once for a state under 8,352 bytes, then 3, 2, 4, 20, 21, 24, 25, 6, 8, 9.
@@ -339,5 +349,5 @@ pub extern "C" fn tumbeliko_notice_send(
 ) -> Sized
     ensures { send_out result out.new ≡ notice_send_of (table_from n t sender 0) notice.now to out.old }
 {
-    notice_step::send(table(n, t, sender, 0), notice, to as usize, out)
+    Sized::from(notice_step::send(table(n, t, sender, 0), notice, to as usize, out))
 }
