@@ -1,6 +1,6 @@
--- Laws of `drill`: Nexts of the next line, Goings of the steps, Openings of the four lines before them, Promises of the call.
-pub mod Nexts
+-- Laws of `drill`.
 pub mod Goings
-pub mod Openings
+pub mod Calls
+pub mod Steps
 pub mod Promises
 pub mod Prefix

@@ -15,12 +15,11 @@ use Rattle.octets.proofs.Walk.{lt_or_le}
 use Rattle.table.specs.declared.Table.{Table}
 use Rattle.drill_words.specs.Words.{upto, past, word}
 use Rattle.drill_words.specs.Numbers.{number_of}
-use Rattle.drill_lines.specs.declared.Breakers.{Breakers}
-use Rattle.drill_lines.specs.Lines.{fits, spaces, form, spaces_for, table_in, right_table, breakers_in, right_breakers, message_in, right_message, count_in, right_count, right_step}
+use Rattle.drill_lines.specs.Lines.{Breakers, spaces, form, spaces_for, table_in, right_table, breakers_in, right_breakers, message_in, right_message, count_in, right_count, right_step}
 use Rattle.drill_boards.specs.Held.{Boards}
 use Rattle.drill_step.specs.Boards.{fresh, turn_of}
 use Rattle.drill_print.specs.Text.{heading, line_text, bad}
-use Rattle.drill_open.proofs.Nexts.{right_line}
+use Rattle.drill_open.proofs.Opens.{right_line}
 use Rattle.drill_open.specs.Opened.{Begin, wrong, begins, line_right, opening4, opening3, opening2, opening1}
 use Rattle.drill.specs.Drill.{steps_from, printed_by, drill_of}
 
@@ -126,7 +125,6 @@ module _ (right : List ℕ → Bool) (brief : (l : List ℕ) → right l ≡ tru
 -- ---- the lines that are right are brief
 
 form_brief : (l : List ℕ) (n : ℕ) → form l n ≡ true → length l ≤ 1024
-unfolding form fits
 form_brief l n e = leb-true (length l) 1024 (and_l (leb (length l) 1024) (spaces l n) e)
 
 table_brief : (l : List ℕ) → right_table l ≡ true → length l ≤ 1024
@@ -146,7 +144,7 @@ unfolding right_count
 count_brief l e = form_brief l 0 (and_l (form l 0) _ e)
 
 step_brief : (b : Table) (x : Breakers) (l : List ℕ) → right_step b x l ≡ true → length l ≤ 1024
-unfolding right_step fits
+unfolding right_step
 step_brief b x l e = leb-true (length l) 1024 (and_l (leb (length l) 1024) _ e)
 
 -- ---- the steps, the lines before them, the whole

@@ -2,7 +2,7 @@
 use mathlib.Core.Path.{◌≡◌, sym, ap, ◌∙◌}
 use mathlib.Core.List.{List}
 use Prim.Native.Nat.{ℕ}
-use Rattle.octets.specs.declared.Sized.{Sized}
+use Rattle.refusal.specs.declared.Sized.{Sized}
 use Rattle.drill.specs.Call.{Lent, DrillOut, drill_out, call_of}
 
 pub drill_one : (input : List ℕ) (b : Lent) (x y : Sized) (l m : Lent) → drill_out x l ≡ call_of input b → drill_out y m ≡ call_of input b → (x ≡ y) × (l ≡ m)

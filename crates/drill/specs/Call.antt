@@ -2,8 +2,8 @@
 use Rattle.std.specs.Prelude.{ℕ, List, Bool, ◌||◌, ltb, length}
 use Rattle.record.specs.Form.{out_bytes}
 use Rattle.octets.specs.Bytes.{pick, put}
-use Rattle.octets.specs.Answers.{sized}
-use Rattle.octets.specs.declared.Sized.{Sized}
+use Rattle.refusal.specs.Answers.{sized}
+use Rattle.refusal.specs.declared.Sized.{Sized}
 use Rattle.drill_boards.specs.Held.{zeros}
 use Rattle.drill.specs.Drill.{drill_of}
 

@@ -3,8 +3,7 @@ use Rattle.std.specs.Prelude.{ℕ, zero, suc, ◌+◌, List, [], ◌++◌, ltb, 
 use Rattle.octets.specs.Bytes.{pick}
 use Rattle.table.specs.declared.Table.{Table}
 use Rattle.drill_words.specs.Words.{upto, past}
-use Rattle.drill_lines.specs.declared.Breakers.{Breakers}
-use Rattle.drill_lines.specs.Lines.{right_step}
+use Rattle.drill_lines.specs.Lines.{Breakers, right_step}
 use Rattle.drill_boards.specs.Held.{Boards}
 use Rattle.drill_step.specs.Boards.{fresh, turn_of}
 use Rattle.drill_open.specs.Opened.{line_right, Begin, wrong, begins, opening1}

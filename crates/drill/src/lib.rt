@@ -1,141 +1,74 @@
-// A drill: its lines are read, its steps run, and what it prints is put into a lent buffer.
+// The drill program as one call: the rule-keeping boards of a line step by step, all that they answer printed into a lent buffer.
 #![tactic(auto)]
 
-ghost use Rattle.std.specs.Prelude.{◌≡◌, true, ◌||◌, ◌+◌, ◌*◌, ◌≤◌, ◌<◌, ltb, length, drop};
+ghost use Rattle.std.specs.Prelude.{◌≡◌, true, ◌||◌, ◌+◌, ◌*◌, ◌≤◌, ◌<◌, ltb, length};
 ghost use Rattle.record.specs.Form.{out_bytes};
-ghost use Rattle.drill_lines.specs.Lines.{right_step};
-ghost use Rattle.drill_words.specs.Words.{upto};
-ghost use Rattle.drill_open.specs.Opened.{line_right, opening1};
-ghost use Rattle.drill_print.specs.Printed.{Printed};
-ghost use Rattle.drill_step.specs.Asked.{DrillRoom};
-ghost use Rattle.drill_boards.specs.Room.{boards_in};
+ghost use Rattle.drill_lines.specs.Read.{numbered};
+ghost use Rattle.drill_open.specs.Opened.{opening1};
+ghost use Rattle.drill_print.specs.Printed.{Wrote};
+ghost use Rattle.drill_boards.specs.Held.{zeros};
+ghost use Rattle.drill_step.specs.Asked.{DrillRoom, Cleared, SameRoom, boards_of};
 ghost use Rattle.drill.specs.Drill.{steps_from, printed_by, drill_of};
 ghost use Rattle.drill.specs.Call.{lent, drill_out, call_of};
-ghost use Rattle.drill.specs.Asked.{Stepped, Opens, Clean, Fitting, Ended, Long, DrillLeft};
+ghost use Rattle.drill.specs.Asked.{Tells, Exact, Ended};
 
-use drill_lines::Breakers;
-use drill_open::Opening;
-use octets::Sized;
+use drill_open::{BadLine, Opening, next_line};
+use drill_print::Page;
+use drill_step::Room;
 use record::OUT_BYTES;
-use table::Table;
+use refusal::{Refusal, Sized};
 
-// One step: it is run and its line is printed.
-fn run_step(
-    b: Table,
-    x: Breakers,
-    message: &[u8],
-    k: usize,
-    input: &[u8],
-    at: usize,
-    states: &mut [u8],
-    kept: &mut [u8],
-    handed: &mut [u8],
-    out: &mut [u8],
-    delivery: &mut [u8],
-    text: &mut [u8],
-    p: usize,
-) -> usize
-    requires { Fitting b message.now × (at ≤ length input.now) × (line_right (right_step b x) (drop at input.now) ≡ true)
-        × DrillRoom states.old kept.old handed.old out.old delivery.old × (p + 154 ≤ length text.old) }
-    ensures { Stepped b message.now k (upto 10 (drop at input.now)) (boards_in states.old kept.old)
-        (boards_in states.new kept.new) p text.old text.new result × (result ≤ p + 154) }
+// The steps, on the lines after the first four; then nothing may follow.
+fn run_steps(o: Opening, message: &[u8], room: &mut Room, page: &mut Page) -> Result<(), BadLine>
+    requires { (length message.now ≤ o.table.limits.table.longest) × DrillRoom room.old × (page.old.at + 154014 ≤ length page.old.text.now) }
+    ensures { Tells (steps_from o.entry.table.limits.table (numbered o.entry.breakers) message.now o.entry.count 1 o.entry.rest.now (boards_of room.old)) result page.old page.new
+        × (page.new.at ≤ page.old.at + 154000) × DrillRoom room.new × SameRoom room.old room.new }
 {
-    let e = drill_words::find(input, at, b'\n');
-    let s = drill_step::run(
-        b,
-        message,
-        &input[at..e],
-        states,
-        kept,
-        handed,
-        out,
-        delivery,
-    );
-    drill_print::put_line(text, p, k, &input[at..e], s, delivery)
+    let mut rest = o.rest;
+    for k in 1..o.count + 1 {
+        let (line, more) = next_line(rest, k + 4)?;
+        let step = drill_lines::step_in(o.table, o.breakers, line).ok_or(BadLine { line: k + 4 })?;
+        let shown = room.step(o.table, message, step);
+        let delivery = &mut *room.delivery;
+        page.put_line(k, step, shown, delivery);
+        rest = more;
+    }
+    if rest.is_empty() {
+        Ok(())
+    } else {
+        Err(BadLine { line: o.count + 5 })
+    }
 }
 
-// So many steps, from the line at `at` on; then nothing may follow.
-fn run_steps(
-    b: Table,
-    x: Breakers,
-    message: &[u8],
-    count: usize,
-    input: &[u8],
-    start: usize,
-    states: &mut [u8],
-    kept: &mut [u8],
-    handed: &mut [u8],
-    out: &mut [u8],
-    delivery: &mut [u8],
-    text: &mut [u8],
-    from: usize,
-) -> usize
-    requires { Fitting b message.now × (count ≤ 1000) × (start ≤ length input.now)
-        × DrillRoom states.old kept.old handed.old out.old delivery.old × (from + 154014 ≤ length text.old) }
-    ensures { Printed (steps_from b x message.now count 1 (drop start input.now) (boards_in states.old kept.old))
-        from text.old text.new result × (result ≤ from + 154014) }
+// All lines, in a clean room.
+fn run(input: &[u8], message: &mut [u8], room: &mut Room, page: &mut Page) -> Result<(), BadLine>
+    requires { (length message.old ≡ 64) × DrillRoom room.old × Cleared room.old × (page.old.at + 154014 ≤ length page.old.text.now) }
+    ensures { Tells (printed_by (opening1 input.now)) result page.old page.new
+        × (page.new.at ≤ page.old.at + 154000) × DrillRoom room.new × SameRoom room.old room.new }
 {
-    let mut k = 1;
-    let mut at = start;
-    let mut p = from;
-    while k <= count {
-        if !drill_open::is_step(b, x, input, at) {
-            return drill_print::put_bad(text, p, k + 4);
-        }
-        p = run_step(
-            b, x, message, k, input, at, states, kept, handed, out, delivery, text, p,
-        );
-        at = drill_words::next_after(input, at, b'\n');
-        k += 1;
-    }
-    if at < input.len() {
-        return drill_print::put_bad(text, p, k + 4);
-    }
-    p
+    let o = Opening::read(input, message)?;
+    room.start(o.table);
+    let said = &*message;
+    run_steps(o, &said[..o.size], room, page)
 }
 
-// From line 1 on, once the four lines before the steps were looked at.
-fn run_opened(
-    o: Opening,
-    message: &[u8],
-    input: &[u8],
-    states: &mut [u8],
-    kept: &mut [u8],
-    handed: &mut [u8],
-    out: &mut [u8],
-    delivery: &mut [u8],
-    text: &mut [u8],
-    p: usize,
-) -> usize
-    requires { Opens o message.now input.now × Clean states.old kept.old handed.old out.old delivery.old × (p + 154014 ≤ length text.old) }
-    ensures { Printed (printed_by (opening1 input.now)) p text.old text.new result × (result ≤ p + 154014) }
+// The whole drill: all is clean afterwards.
+fn run_all(input: &[u8], message: &mut [u8], room: &mut Room, page: &mut Page)
+    requires { (length message.old ≡ 64) × DrillRoom room.old × (page.old.at ≡ 0) × (154051 ≤ length page.old.text.now) }
+    ensures { Wrote (drill_of input.now) page.old page.new × (page.new.at ≤ 154051) × (message.new ≡ zeros 64) × Cleared room.new × SameRoom room.old room.new }
 {
-    if o.bad != 0 {
-        return drill_print::put_bad(text, p, o.bad);
+    room.clear();
+    page.put(b"step kind from to answer act outcome\n");
+    if let Err(bad) = run(input, message, room, page) {
+        page.put_bad(bad.line);
     }
-    let b = o.table;
-    let x = o.breakers;
-    let n = o.size;
-    drill_step::start_all(b, states);
-    run_steps(
-        b,
-        x,
-        &message[..n],
-        o.count,
-        input,
-        o.at,
-        states,
-        kept,
-        handed,
-        out,
-        delivery,
-        text,
-        p,
-    )
+    message.fill(0);
+    room.clear();
 }
 
-// The whole drill, in buffers of just the lengths needed: they are clean afterwards.
-fn run_all(
+// The whole drill in buffers of just the lengths needed, which are a room and a page; how many bytes are printed.
+// Stays: the buffers one by one, as the C interface of `tumbeliko_drill` lends them.
+fn run_lent(
     input: &[u8],
     message: &mut [u8],
     states: &mut [u8],
@@ -145,50 +78,19 @@ fn run_all(
     delivery: &mut [u8],
     text: &mut [u8],
 ) -> usize
-    requires { (length message.old ≡ 64) × DrillRoom states.old kept.old handed.old out.old delivery.old × (154051 ≤ length text.old) }
-    ensures { Ended (drill_of input.now) text.old text.new result message.new states.new kept.new handed.new out.new delivery.new }
+    requires { Exact (lent message.old states.old kept.old handed.old out.old delivery.old text.old) }
+    ensures { Ended input.now result text.old (lent message.new states.new kept.new handed.new out.new delivery.new text.new) }
 {
-    drill_boards::clear(states, 35588);
-    drill_boards::clear(kept, 14336);
-    octets::copy_at(text, 0, b"step kind from to answer act outcome\n");
-    let o = drill_open::open1(input, message);
-    let end = run_opened(
-        o, message, input, states, kept, handed, out, delivery, text, 37,
-    );
-    drill_boards::clear(message, 64);
-    drill_boards::clear(states, 35588);
-    drill_boards::clear(kept, 14336);
-    drill_boards::clear(handed, OUT_BYTES);
-    drill_boards::clear(out, OUT_BYTES);
-    drill_boards::clear(delivery, 64);
-    end
-}
-
-// The whole drill, in buffers that are long enough.
-fn run_cut(
-    input: &[u8],
-    message: &mut [u8],
-    states: &mut [u8],
-    kept: &mut [u8],
-    handed: &mut [u8],
-    out: &mut [u8],
-    delivery: &mut [u8],
-    text: &mut [u8],
-) -> usize
-    requires { Long (lent message.old states.old kept.old handed.old out.old delivery.old text.old) }
-    ensures { DrillLeft input.now result (lent message.old states.old kept.old handed.old out.old delivery.old text.old)
-        (lent message.new states.new kept.new handed.new out.new delivery.new text.new) }
-{
-    run_all(
-        input,
-        &mut message[..64],
-        &mut states[..35588],
-        &mut kept[..14336],
-        &mut handed[..OUT_BYTES],
-        &mut out[..OUT_BYTES],
-        &mut delivery[..64],
-        text,
-    )
+    let mut room = Room {
+        states,
+        kept,
+        handed,
+        out,
+        delivery,
+    };
+    let mut page = Page { text, at: 0 };
+    run_all(input, message, &mut room, &mut page);
+    page.at
 }
 
 // Whether a lent buffer is too short, by their lengths.
@@ -203,25 +105,13 @@ fn is_short(
 ) -> bool
     ensures { result ≡ (ltb message 64 || (ltb states 35588 || (ltb kept 14336 || (ltb handed out_bytes || (ltb out out_bytes || (ltb delivery 64 || ltb text 154051)))))) }
 {
-    if message < 64 {
-        return true;
-    }
-    if states < 35588 {
-        return true;
-    }
-    if kept < 14336 {
-        return true;
-    }
-    if handed < OUT_BYTES {
-        return true;
-    }
-    if out < OUT_BYTES {
-        return true;
-    }
-    if delivery < 64 {
-        return true;
-    }
-    text < 154051
+    message < 64
+        || states < 35588
+        || kept < 14336
+        || handed < OUT_BYTES
+        || out < OUT_BYTES
+        || delivery < 64
+        || text < 154051
 }
 
 // A drill: all that it prints goes to the start of `text`; 2.
@@ -248,14 +138,17 @@ pub extern "C" fn tumbeliko_drill(
         delivery.len(),
         text.len(),
     ) {
-        return Sized {
-            number: 2,
-            length: 0,
-        };
+        return Sized::from(Err(Refusal::Buffer));
     }
-    let end = run_cut(input, message, states, kept, handed, out, delivery, text);
-    Sized {
-        number: 0,
-        length: end as u32,
-    }
+    let end = run_lent(
+        input,
+        &mut message[..64],
+        &mut states[..35588],
+        &mut kept[..14336],
+        &mut handed[..OUT_BYTES],
+        &mut out[..OUT_BYTES],
+        &mut delivery[..64],
+        text,
+    );
+    Sized::from(Ok(end as u32))
 }

@@ -1,4 +1,3 @@
 -- Laws of `drill_boards`: Slots and Zeros of the lent buffers, Copied of a record in a slot.
 pub mod Slots
 pub mod Zeros
-pub mod Copied

@@ -8,6 +8,7 @@ use native.Mathlib.Omega.{arith}
 use borrow.Author.Tests.{eqb-true, eqb-false, leb-true, le-leb, ne_eqb}
 use lib.Dec.{eqb, leb}
 use lib.ListN.{length, get_or}
+use Rattle.std.proofs.lemmas.Bool.Decides.{nat_tests}
 use Rattle.octets.specs.Bytes.{pick, part, put, two_at, two}
 use Rattle.octets.proofs.Laws.{put_put, length_put, length_part}
 use Rattle.octets.proofs.Walk.{lt_or_le}
@@ -114,3 +115,5 @@ module _ (states m : List ℕ) (i : ℕ) (w : List ℕ) (few : i < 7) (short : l
   pub note_none : (get_or w 0 0 ≡ 2 → ⊥) → (get_or w 0 0 ≡ 3 → ⊥) → boards_in states m ≡ with_record (boards_in states m) i w
   unfolding boards_in with_record pick
   note_none e f = rw (ne_eqb (get_or w 0 0) 2 e, ne_eqb (get_or w 0 0) 3 f)
+
+pub ruleset slots = (nat_tests, slot_size, slot_short, note_echo, note_vote, note_none)

@@ -1,2 +1,3 @@
--- What the contracts of `drill_lines` cite.
+-- What the contracts of `drill_lines` cite. To be read: Lines. Read is what its functions tell.
 pub mod Lines
+pub mod Read

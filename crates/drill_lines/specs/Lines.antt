@@ -5,23 +5,22 @@ use Rattle.table.specs.Table.{limits, is_board}
 use Rattle.table.specs.declared.Table.{Table}
 use Rattle.drill_words.specs.Words.{how_many, word}
 use Rattle.drill_words.specs.Numbers.{number_of, is_hex, from_hex}
-use Rattle.drill_lines.specs.declared.Breakers.{Breakers}
 
 -- "1,024 characters a line"
-unfoldable pub fits : List ℕ → Bool
+abbrev pub fits : List ℕ → Bool
 fits l = leb (length l) 1024
 
 -- so many spaces. Words stand one space apart: a space too many makes a word of no bytes, which is neither number nor hex
-unfoldable pub spaces : List ℕ → ℕ → Bool
+abbrev pub spaces : List ℕ → ℕ → Bool
 spaces l n = eqb (how_many 32 l) n
 
 -- "1,024 characters a line", and so many spaces
-unfoldable pub form : List ℕ → ℕ → Bool
+abbrev pub form : List ℕ → ℕ → Bool
 form l n = fits l && spaces l n
 
 -- ---- "line 1 n t S L", "n up to 7 and L up to 64"
 
-unfoldable pub table_in : List ℕ → Table
+abbrev pub table_in : List ℕ → Table
 table_in l = record { n = number_of (word 0 l); t = number_of (word 1 l); sender = number_of (word 2 l); longest = number_of (word 3 l) }
 
 unfoldable pub right_table : List ℕ → Bool
@@ -29,18 +28,22 @@ right_table l = form l 3 && (limits (table_in l) && (leb (table_in l).n 7 && leb
 
 -- ---- "line 2 the count of rule-breaking boards, then their numbers"; "at most t rule-breakers, none twice". With n up to 7, t is at most 2
 
--- a number that is not there counts as 10,000, which no board has
-unfoldable pub breakers_in : List ℕ → Breakers
+-- their numbers; one that is not there counts as 10,000, which no board has
+pub record Breakers : Type 0 where
+  pub first : ℕ
+  pub second : ℕ
+
+abbrev pub breakers_in : List ℕ → Breakers
 breakers_in l = record { first = number_of (word 1 l); second = number_of (word 2 l) }
 
 -- c of them are boards, and differ
-unfoldable pub are_boards : Table → ℕ → Breakers → Bool
+abbrev pub are_boards : Table → ℕ → Breakers → Bool
 are_boards b c x = ltb c 1 || (is_board b x.first && (ltb c 2 || (is_board b x.second && not (eqb x.first x.second))))
 
 unfoldable pub right_breakers : Table → List ℕ → Bool
 right_breakers b l = let c = number_of (word 0 l) in form l c && (leb c b.t && are_boards b c (breakers_in l))
 
-unfoldable pub breaks : Breakers → ℕ → Bool
+abbrev pub breaks : Breakers → ℕ → Bool
 breaks x i = eqb i x.first || eqb i x.second
 
 -- ---- "line 3 message length, then hex"; "hex is .. left out for no bytes"; "a message above L" is a bad line
@@ -48,7 +51,7 @@ breaks x i = eqb i x.first || eqb i x.second
 unfoldable pub message_in : List ℕ → List ℕ
 message_in l = from_hex (word 1 l)
 
-unfoldable pub spaces_for : ℕ → ℕ
+abbrev pub spaces_for : ℕ → ℕ
 spaces_for c = pick (eqb c 0) 0 1
 
 unfoldable pub right_message : Table → List ℕ → Bool
@@ -58,7 +61,7 @@ right_message b l =
 
 -- ---- "line 4 the count of steps", at most "1,000 steps"
 
-unfoldable pub count_in : List ℕ → ℕ
+abbrev pub count_in : List ℕ → ℕ
 count_in l = number_of (word 0 l)
 
 unfoldable pub right_count : List ℕ → Bool
@@ -76,18 +79,18 @@ from_in l = number_of (word 1 l)
 abbrev pub to_in : List ℕ → ℕ
 to_in l = number_of (word 2 l)
 
-unfoldable pub right_kind : ℕ → Bool
+abbrev pub right_kind : ℕ → Bool
 right_kind k = eqb k 115 || (eqb k 101 || (eqb k 118 || eqb k 114))
 
 -- "r 3 2 hex": raw bytes that are not none are a fourth word
-unfoldable pub right_raw : List ℕ → Bool
+abbrev pub right_raw : List ℕ → Bool
 right_raw l = eqb (kind_in l) 114 && (spaces l 3 && (is_hex (word 3 l) && ltb 0 (length (word 3 l))))
 
-unfoldable pub right_words : List ℕ → Bool
+abbrev pub right_words : List ℕ → Bool
 right_words l = spaces l 2 || right_raw l
 
 -- "the receiver keeps the rules in every step; the sending board does in s, e, v"; r is "from rule-breaking board 3"
-unfoldable pub right_boards : Table → Breakers → ℕ → ℕ → ℕ → Bool
+abbrev pub right_boards : Table → Breakers → ℕ → ℕ → ℕ → Bool
 right_boards b x k from to =
     is_board b from && (is_board b to && (not (breaks x to) && pick (eqb k 114) (breaks x from) (not (breaks x from))))
 

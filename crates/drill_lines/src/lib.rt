@@ -1,226 +1,203 @@
-// What each line of a drill must be.
-#![tactic(auto)]
+// What each line of a drill must be, and what it then says.
+#![tactic(auto, using(crate::proofs::Lines::tests), unfolding(crate::specs::Lines::right_table, crate::specs::Lines::right_breakers, crate::specs::Lines::right_message, crate::specs::Lines::right_count, crate::specs::Lines::right_step, table::specs::Table::limits, table::specs::Table::is_board, octets::specs::Bytes::pick))]
 
-ghost use Rattle.std.specs.Prelude.{◌≡◌, ◌≤◌};
-ghost use Rattle.drill_lines.specs.Lines.{form, table_in, right_table, breakers_in, are_boards, right_breakers, breaks, spaces_for, right_message, right_count, kind_in, right_kind, right_raw, right_words, right_boards, right_step};
+ghost use Rattle.std.specs.Prelude.{◌≡◌, ◌≤◌, ◌<◌, MatchOption, false, unwrap_or};
+ghost use Rattle.table.specs.Table.{is_board};
+ghost use Rattle.drill_words.specs.Words.{word};
+ghost use Rattle.drill_lines.specs.Lines.{form, table_in, right_table, breakers_in, are_boards, right_breakers, message_in, right_message, count_in, right_count, kind_in, right_kind, right_words, right_boards, right_step, breaks};
+ghost use Rattle.drill_lines.specs.Read.{Reads, numbered, letter_of, IsRaw, IsStep};
 
-use drill_words::{count_of, hex_in, length_in, number_in};
-use table::{Table, in_limits, is_board};
+use drill_words::{count_of, is_hex, number, word};
+use table::{InLimits, Table};
 
-// The numbers of the rule-breaking boards; 10,000 for one that is not there.
+// A table of a drill: within its limits, n up to 7 and L up to 64.
+#[derive(Clone, Copy)]
+pub struct Small {
+    pub limits: InLimits,
+    ghost few: { limits.table.n ≤ 7 },
+    ghost short: { limits.table.longest ≤ 64 },
+}
+
+// The numbers of the rule-breaking boards.
 #[derive(Clone, Copy)]
 pub struct Breakers {
-    pub first: usize,
-    pub second: usize,
+    pub first: Option<usize>,
+    pub second: Option<usize>,
+}
+
+// What a step hands over: a record that a board put out, or the raw bytes that this hex stands for.
+#[derive(Clone, Copy)]
+pub enum Handed<'a> {
+    Send,
+    Echo,
+    Vote,
+    Raw(&'a [u8]),
+}
+
+impl Handed<'_> {
+    // Its letter.
+    pub fn letter(self) -> u8
+        ensures { result ≡ letter_of self.entry }
+    {
+        match self {
+            Handed::Send => b's',
+            Handed::Echo => b'e',
+            Handed::Vote => b'v',
+            Handed::Raw(_) => b'r',
+        }
+    }
+}
+
+// A step: what is handed over, from which board and to which.
+#[derive(Clone, Copy)]
+pub struct Step<'a> {
+    pub handed: Handed<'a>,
+    pub from: usize,
+    pub to: usize,
 }
 
 // Whether the line has at most 1,024 characters and n spaces.
 fn has_form(l: &[u8], n: usize) -> bool
     ensures { result ≡ form l.now n }
 {
-    if 1024 < l.len() {
-        return false;
-    }
-    count_of(l, b' ') == n
+    l.len() <= 1024 && count_of(l, b' ') == n
+}
+
+// Four numbers as a table.
+fn four_in(l: &[u8]) -> Option<Table>
+    ensures { MatchOption result (right_table l.now ≡ false) (λ b. b ≡ table_in l.now) }
+{
+    Some(Table {
+        n: number(word(l, 0))?,
+        t: number(word(l, 1))?,
+        sender: number(word(l, 2))?,
+        longest: number(word(l, 3))?,
+    })
 }
 
 // The table that line 1 says.
-pub fn table_in(l: &[u8]) -> Table
-    ensures { result ≡ table_in l.now }
+pub fn table_in(l: &[u8]) -> Option<Small>
+    ensures { Reads result (right_table l.now) (λ b. b.limits.table ≡ table_in l.now) }
 {
-    Table {
-        n: number_in(l, 0),
-        t: number_in(l, 1),
-        sender: number_in(l, 2),
-        longest: number_in(l, 3),
+    let b = four_in(l)?;
+    let limits = InLimits::try_from(b).ok()?;
+    if has_form(l, 3) && b.n <= 7 && b.longest <= 64 {
+        Some(Small { limits })
+    } else {
+        None
     }
 }
 
-// Whether line 1 is right.
-pub fn right_table(l: &[u8]) -> bool
-    ensures { result ≡ right_table l.now }
-{
-    if !has_form(l, 3) {
-        return false;
+impl Breakers {
+    // Whether board i is one of them.
+    fn names(self, i: usize) -> bool
+        ensures { i < 10000 → result ≡ breaks (numbered self) i }
+    {
+        self.first == Some(i) || self.second == Some(i)
     }
-    let b = table_in(l);
-    if !in_limits(b) {
-        return false;
-    }
-    if 7 < b.n {
-        return false;
-    }
-    b.longest <= 64
 }
 
-// The rule-breakers that line 2 says.
-pub fn breakers_in(l: &[u8]) -> Breakers
-    ensures { result ≡ breakers_in l.now }
-{
-    Breakers {
-        first: number_in(l, 1),
-        second: number_in(l, 2),
+impl Small {
+    // Whether the number is there and is a board's.
+    fn has(self, i: Option<usize>) -> bool
+        ensures { result ≡ is_board self.limits.table (unwrap_or i 10000) }
+    {
+        match i {
+            Some(i) => self.limits.table.is_board(i),
+            None => false,
+        }
     }
 }
 
 // Whether so many rule-breakers are boards, and none is named twice.
-fn are_boards(b: Table, c: usize, x: Breakers) -> bool
-    ensures { result ≡ are_boards b c x }
+fn are_boards(b: Small, c: usize, x: Breakers) -> bool
+    ensures { result ≡ are_boards b.limits.table c (numbered x) }
 {
-    if c < 1 {
-        return true;
-    }
-    if !is_board(b, x.first) {
-        return false;
-    }
-    if c < 2 {
-        return true;
-    }
-    if !is_board(b, x.second) {
-        return false;
-    }
-    x.first != x.second
+    c < 1 || b.has(x.first) && (c < 2 || b.has(x.second) && x.first != x.second)
 }
 
-// Whether line 2 is right.
-pub fn right_breakers(b: Table, l: &[u8]) -> bool
-    ensures { result ≡ right_breakers b l.now }
+// The rule-breakers that line 2 says.
+pub fn breakers_in(b: Small, l: &[u8]) -> Option<Breakers>
+    ensures { Reads result (right_breakers b.limits.table l.now) (λ x. numbered x ≡ breakers_in l.now) }
 {
-    let c = number_in(l, 0);
-    if !has_form(l, c) {
-        return false;
-    }
-    if b.t < c {
-        return false;
-    }
-    are_boards(b, c, breakers_in(l))
+    let c = number(word(l, 0))?;
+    let x = Breakers {
+        first: number(word(l, 1)),
+        second: number(word(l, 2)),
+    };
+    (has_form(l, c) && c <= b.limits.table.t && are_boards(b, c, x)).then_some(x)
 }
 
-// Whether the board breaks the rules.
-pub fn is_breaker(x: Breakers, i: usize) -> bool
-    ensures { result ≡ breaks x i }
+// The hex of the message that line 3 says.
+pub fn message_in(b: Small, l: &[u8]) -> Option<&[u8]>
+    ensures { Reads result (right_message b.limits.table l.now) (λ w. w.now ≡ word 1 l.now) }
 {
-    if i == x.first {
-        return true;
-    }
-    i == x.second
+    let c = number(word(l, 0))?;
+    let w = word(l, 1);
+    // hex is left out for no bytes, and the space before it
+    let spaces = usize::from(c != 0);
+    (has_form(l, spaces) && c <= b.limits.table.longest && is_hex(w) && w.len() == 2 * c).then_some(
+        w,
+    )
 }
 
-// One space before hex, none where there are no bytes.
-fn spaces_for(c: usize) -> usize
-    ensures { result ≡ spaces_for c }
+// The count of steps that line 4 says.
+pub fn count_in(l: &[u8]) -> Option<usize>
+    ensures { Reads result (right_count l.now) (λ c. c ≡ count_in l.now) }
 {
-    if c == 0 { 0 } else { 1 }
+    let c = number(word(l, 0))?;
+    if has_form(l, 0) && c <= 1000 {
+        Some(c)
+    } else {
+        None
+    }
 }
 
-// Whether line 3 is right.
-pub fn right_message(b: Table, l: &[u8]) -> bool
-    ensures { result ≡ right_message b l.now }
+// What a step hands over, by its first word; raw bytes are the fourth.
+fn handed_in(l: &[u8]) -> Option<Handed<'_>>
+    ensures { Reads result (right_kind (kind_in l.now)) (λ h. (letter_of h ≡ kind_in l.now) × IsRaw h l.now) }
 {
-    let c = number_in(l, 0);
-    if !has_form(l, spaces_for(c)) {
-        return false;
+    match word(l, 0) {
+        b"s" => Some(Handed::Send),
+        b"e" => Some(Handed::Echo),
+        b"v" => Some(Handed::Vote),
+        b"r" => Some(Handed::Raw(word(l, 3))),
+        _ => None,
     }
-    if b.longest < c {
-        return false;
-    }
-    if !hex_in(l, 1) {
-        return false;
-    }
-    length_in(l, 1) == 2 * c
 }
 
-// Whether line 4 is right.
-pub fn right_count(l: &[u8]) -> bool
-    ensures { result ≡ right_count l.now }
-{
-    if !has_form(l, 0) {
-        return false;
-    }
-    number_in(l, 0) <= 1000
-}
-
-// What a step hands over, s, e, v or r; 0 for a word of more than one byte.
-pub fn kind_in(l: &[u8]) -> u8
-    ensures { result ≡ kind_in l.now }
-{
-    if length_in(l, 0) != 1 {
-        return 0;
-    }
-    l[0]
-}
-
-fn right_kind(k: u8) -> bool
-    ensures { result ≡ right_kind k }
-{
-    if k == b's' {
-        return true;
-    }
-    if k == b'e' {
-        return true;
-    }
-    if k == b'v' {
-        return true;
-    }
-    k == b'r'
-}
-
-// Whether a fourth word is right: raw bytes that are not none.
-fn right_raw(l: &[u8]) -> bool
-    ensures { result ≡ right_raw l.now }
-{
-    if kind_in(l) != b'r' {
-        return false;
-    }
-    if count_of(l, b' ') != 3 {
-        return false;
-    }
-    if !hex_in(l, 3) {
-        return false;
-    }
-    0 < length_in(l, 3)
-}
-
-fn right_words(l: &[u8]) -> bool
+// Whether the words are so many: raw bytes that are not none are a fourth.
+fn right_words(l: &[u8], h: Handed) -> bool
+    requires { (letter_of h ≡ kind_in l.now) × IsRaw h l.now }
     ensures { result ≡ right_words l.now }
 {
-    if count_of(l, b' ') == 2 {
-        return true;
+    match h {
+        Handed::Raw(w) if count_of(l, b' ') == 3 => is_hex(w) && !w.is_empty(),
+        _ => count_of(l, b' ') == 2,
     }
-    right_raw(l)
 }
 
-fn right_boards(b: Table, x: Breakers, k: u8, from: usize, to: usize) -> bool
-    ensures { result ≡ right_boards b x k from to }
+// Whether the boards are such: the receiver keeps the rules, and the sending board breaks them for raw bytes alone.
+fn right_boards(b: Small, x: Breakers, s: Step) -> bool
+    ensures { result ≡ right_boards b.limits.table (numbered x) (letter_of s.entry.handed) s.entry.from s.entry.to }
 {
-    if !is_board(b, from) {
-        return false;
-    }
-    if !is_board(b, to) {
-        return false;
-    }
-    if is_breaker(x, to) {
-        return false;
-    }
-    if k == b'r' {
-        return is_breaker(x, from);
-    }
-    !is_breaker(x, from)
+    b.limits.table.is_board(s.from)
+        && b.limits.table.is_board(s.to)
+        && !x.names(s.to)
+        && match s.handed {
+            Handed::Raw(_) => x.names(s.from),
+            _ => !x.names(s.from),
+        }
 }
 
-// Whether a step's line is right.
-pub fn right_step(b: Table, x: Breakers, l: &[u8]) -> bool
-    ensures { result ≡ right_step b x l.now }
+// The step that a line says.
+pub fn step_in(b: Small, x: Breakers, l: &[u8]) -> Option<Step<'_>>
+    ensures { Reads result (right_step b.limits.table (numbered x) l.now) (λ s. IsStep s l.now) }
 {
-    if 1024 < l.len() {
-        return false;
-    }
-    let k = kind_in(l);
-    if !right_kind(k) {
-        return false;
-    }
-    if !right_words(l) {
-        return false;
-    }
-    right_boards(b, x, k, number_in(l, 1), number_in(l, 2))
+    let s = Step {
+        handed: handed_in(l)?,
+        from: number(word(l, 1))?,
+        to: number(word(l, 2))?,
+    };
+    (l.len() <= 1024 && right_words(l, s.handed) && right_boards(b, x, s)).then_some(s)
 }

@@ -1,3 +1,2 @@
--- Laws of `drill_open`: Nexts of the next line, Opens of what right lines give.
-pub mod Nexts
+-- Laws of `drill_open`: Opens.
 pub mod Opens

@@ -4,21 +4,19 @@ use Prim.Native.Nat.{ℕ, ◌*◌, ◌/◌, ◌≤◌}
 use mathlib.Core.List.{List}
 use mathlib.Core.Bool.{Bool, true, false}
 use native.Mathlib.Omega.{arith}
-use borrow.Author.Tests.{leb-true, eqb-true, ne_eqb}
-use lib.Dec.{leb}
-use lib.ListN.{length, drop}
+use borrow.Author.Tests.{lt-ltb, le-ltb, leb-true, eqb-true}
+use lib.Dec.{leb, ltb}
+use lib.ListN.{length}
+use Rattle.std.specs.Prelude.{Option, None, Some, Err, ok_or}
 use Rattle.octets.specs.Bytes.{pick}
-use Rattle.octets.proofs.Picks.{pick_on, pick_off, and_l, and_r}
-use Rattle.table.specs.Table.{limits}
+use Rattle.octets.proofs.Picks.{and_l, and_r}
 use Rattle.table.specs.declared.Table.{Table}
 use Rattle.drill_words.specs.Words.{upto, past, word}
-use Rattle.drill_words.specs.Numbers.{number_of, is_hex}
-use Rattle.drill_lines.specs.declared.Breakers.{Breakers}
-use Rattle.drill_lines.specs.Lines.{form, spaces_for, table_in, right_table, breakers_in, right_breakers, message_in, right_message, count_in, right_count}
-use Rattle.drill_open.specs.declared.Opening.{Opening}
-use Rattle.drill_open.specs.Opened.{Begin, wrong, line_right, opening4, opening3, opening2, opening1}
-use Rattle.drill_open.specs.Said.{wrongly, opened_by}
-use Rattle.drill_open.proofs.Nexts.{right_line}
+use Rattle.drill_words.specs.Numbers.{number_of, is_hex, from_hex}
+use Rattle.drill_lines.specs.Lines.{Breakers, form, spaces_for, table_in, right_table, breakers_in, right_breakers, message_in, right_message, count_in, right_count}
+use Rattle.drill_open.specs.Next.{Line}
+use Rattle.drill_open.specs.declared.BadLine.{BadLine}
+use Rattle.drill_open.specs.Opened.{wrong, begins, line_right, opening4, opening3, opening2, opening1}
 
 -- a right message has at most L bytes
 pub message_few : (b : Table) (l : List ℕ) → right_message b l ≡ true → length (word 1 l) / 2 ≤ b.longest
@@ -30,39 +28,75 @@ message_few b l e =
     let size : length (word 1 l) ≡ 2 * c = eqb-true (length (word 1 l)) (2 * c) (and_r (is_hex (word 1 l)) _ (and_r (leb c b.longest) _ r)) in
     omega arith
 
--- a right table says an L up to 64
-pub table_short : (rest : List ℕ) (b : Table) → line_right right_table rest ≡ true → b ≡ table_in (upto 10 rest) → b.longest ≤ 64
-unfolding right_table
-table_short rest b e g =
-    let t = table_in (upto 10 rest) in
-    let s = and_r (limits t) _ (and_r (form (upto 10 rest) 3) _ (right_line right_table rest e)) in
-    rw g (leb-true t.longest 64 (and_r (leb t.n 7) _ s))
+-- a right count is at most 1,000
+pub count_few : (l : List ℕ) → right_count l ≡ true → count_in l ≤ 1000
+unfolding right_count
+count_few l e = leb-true (count_in l) 1000 (and_r (form l 0) _ e)
 
--- a line that is not right
-pub says_wrong : (right : List ℕ → Bool) (rest : List ℕ) (r : Opening) (line size : ℕ) (m input : List ℕ) (next : Begin) → 1 ≤ line
-    → line_right right rest ≡ false → r ≡ wrongly line size → opened_by r m input ≡ pick (line_right right rest) next (wrong line)
-unfolding opened_by pick
-says_wrong right rest r line size m input next h e g =
-    pick_off (line_right right rest) _ next (wrong line) e (rw (g, ne_eqb line 0 (λ (z : line ≡ 0). omega arith)))
+-- a line that is right, there or not
+pub right_line : (right : List ℕ → Bool) (rest : List ℕ) → line_right right rest ≡ true → right (upto 10 rest) ≡ true
+unfolding line_right
+right_line right rest e = and_r (ltb 0 (length rest)) (right (upto 10 rest)) e
 
--- lines that are right
-module _ (b : Table) (x : Breakers) (rest : List ℕ) (size count at : ℕ) (m input : List ℕ) where
-  pub says_right : line_right right_count rest ≡ true → count ≡ count_in (upto 10 rest) → drop at input ≡ past 10 rest
-      → opened_by (record { bad = 0; table = b; breakers = x; size = size; count = count; at = at }) m input ≡ opening4 b x m rest
-  unfolding opened_by opening4 pick
-  says_right e c d = rw (e, c, d)
+-- whether the next line is right
+pub missing : (right : List ℕ → Bool) (rest : List ℕ) → length rest ≡ 0 → line_right right rest ≡ false
+unfolding line_right
+missing right rest h = rw (le-ltb 0 (length rest) (omega arith))
 
-module _ (rest more : List ℕ) (d : more ≡ past 10 rest) (s : Begin) where
-  pub after_message : (b : Table) (x : Breakers) (m : List ℕ) → line_right (right_message b) rest ≡ true → m ≡ message_in (upto 10 rest)
-      → s ≡ opening4 b x m more → s ≡ opening3 b x rest
-  unfolding opening3
-  after_message b x m e g w = pick_on (line_right (right_message b) rest) s _ (wrong 3) e (rw (← g, ← d) w)
+pub next : (right : List ℕ → Bool) (rest l more : List ℕ) (r : Bool) → Line rest l more → right l ≡ r → line_right right rest ≡ r
+unfolding line_right
+next right rest l more r x g = rw (lt-ltb 0 (length rest) x.there, ← x.line_is) g
 
-  pub after_breakers : (b : Table) (x : Breakers) → line_right (right_breakers b) rest ≡ true → x ≡ breakers_in (upto 10 rest)
-      → s ≡ opening3 b x more → s ≡ opening2 b rest
-  unfolding opening2
-  after_breakers b x e g w = pick_on (line_right (right_breakers b) rest) s _ (wrong 2) e (rw (← g, ← d) w)
+-- what the lines say from one on, where it is missing, not right, or right
+pub none1 : (rest : List ℕ) → length rest ≡ 0 → wrong 1 ≡ opening1 rest
+unfolding opening1 pick
+none1 rest h = rw (missing right_table rest h)
 
-  pub after_table : (b : Table) → line_right right_table rest ≡ true → b ≡ table_in (upto 10 rest) → s ≡ opening2 b more → s ≡ opening1 rest
-  unfolding opening1
-  after_table b e g w = pick_on (line_right right_table rest) s _ (wrong 1) e (rw (← g, ← d) w)
+pub wrong1 : {rest l more : List ℕ} → Line rest l more → right_table l ≡ false → wrong 1 ≡ opening1 rest
+unfolding opening1 pick
+wrong1 {rest} {l} {more} x h = rw (next right_table rest l more false x h)
+
+pub right1 : {rest l more : List ℕ} (b : Table) → Line rest l more → (right_table l ≡ true) × (b ≡ table_in l) → opening2 b more ≡ opening1 rest
+unfolding opening1 pick
+right1 {rest} {l} {more} b x t = rw (next right_table rest l more true x t.0, t.1, ← x.line_is, ← x.rest_is)
+
+pub none2 : (rest : List ℕ) (b : Table) → length rest ≡ 0 → wrong 2 ≡ opening2 b rest
+unfolding opening2 pick
+none2 rest b h = rw (missing (right_breakers b) rest h)
+
+pub wrong2 : {rest l more : List ℕ} (b : Table) → Line rest l more → right_breakers b l ≡ false → wrong 2 ≡ opening2 b rest
+unfolding opening2 pick
+wrong2 {rest} {l} {more} b x h = rw (next (right_breakers b) rest l more false x h)
+
+pub right2 : {rest l more : List ℕ} (b : Table) (y : Breakers) → Line rest l more → (right_breakers b l ≡ true) × (y ≡ breakers_in l) → opening3 b y more ≡ opening2 b rest
+unfolding opening2 pick
+right2 {rest} {l} {more} b y x t = rw (next (right_breakers b) rest l more true x t.0, t.1, ← x.line_is, ← x.rest_is)
+
+pub none3 : (rest : List ℕ) (b : Table) (y : Breakers) → length rest ≡ 0 → wrong 3 ≡ opening3 b y rest
+unfolding opening3 pick
+none3 rest b y h = rw (missing (right_message b) rest h)
+
+pub wrong3 : {rest l more : List ℕ} (b : Table) (y : Breakers) → Line rest l more → right_message b l ≡ false → wrong 3 ≡ opening3 b y rest
+unfolding opening3 pick
+wrong3 {rest} {l} {more} b y x h = rw (next (right_message b) rest l more false x h)
+
+pub right3 : {rest l more : List ℕ} (b : Table) (y : Breakers) (m : List ℕ) → Line rest l more → (right_message b l ≡ true) × (m ≡ word 1 l) → opening4 b y (from_hex m) more ≡ opening3 b y rest
+unfolding opening3 message_in pick
+right3 {rest} {l} {more} b y m x t = rw (next (right_message b) rest l more true x t.0, t.1, ← x.line_is, ← x.rest_is)
+
+pub none4 : (rest : List ℕ) (b : Table) (y : Breakers) (m : List ℕ) → length rest ≡ 0 → wrong 4 ≡ opening4 b y m rest
+unfolding opening4 pick
+none4 rest b y m h = rw (missing right_count rest h)
+
+pub wrong4 : {rest l more : List ℕ} (b : Table) (y : Breakers) (m : List ℕ) → Line rest l more → right_count l ≡ false → wrong 4 ≡ opening4 b y m rest
+unfolding opening4 pick
+wrong4 {rest} {l} {more} b y m x h = rw (next right_count rest l more false x h)
+
+pub right4 : {rest l more : List ℕ} (b : Table) (y : Breakers) (m : List ℕ) (c : ℕ) → Line rest l more → (right_count l ≡ true) × (c ≡ count_in l) → begins b y m c more ≡ opening4 b y m rest
+unfolding opening4 pick
+right4 {rest} {l} {more} b y m c x t = rw (next right_count rest l more true x t.0, t.1, ← x.line_is, ← x.rest_is)
+
+-- the line's number at an exit
+pub bad_number : {X : Type 0} (o : Option X) (n : ℕ) (e : BadLine) → Err e ≡ ok_or o (record { line = n }) → e.line ≡ n
+bad_number None n e h = cc
+bad_number (Some x) n e h = cc

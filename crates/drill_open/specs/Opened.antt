@@ -3,8 +3,7 @@ use Rattle.std.specs.Prelude.{ℕ, List, Bool, ◌&&◌, ltb, length}
 use Rattle.octets.specs.Bytes.{pick}
 use Rattle.table.specs.declared.Table.{Table}
 use Rattle.drill_words.specs.Words.{upto, past}
-use Rattle.drill_lines.specs.declared.Breakers.{Breakers}
-use Rattle.drill_lines.specs.Lines.{table_in, right_table, breakers_in, right_breakers, message_in, right_message, count_in, right_count}
+use Rattle.drill_lines.specs.Lines.{Breakers, table_in, right_table, breakers_in, right_breakers, message_in, right_message, count_in, right_count}
 
 -- whether the next line of what is left is there and right; lines end with LF, the last may lack it
 unfoldable pub line_right : (List ℕ → Bool) → List ℕ → Bool

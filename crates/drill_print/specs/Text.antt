@@ -3,7 +3,13 @@ use Rattle.std.specs.Prelude.{ℕ, List, [], ◌∷◌, ◌++◌, eqb}
 use Rattle.octets.specs.Bytes.{pick}
 use Rattle.drill_words.specs.Numbers.{decimal, hex_of}
 use Rattle.drill_lines.specs.Lines.{kind_in, from_in, to_in}
-use Rattle.drill_print.specs.declared.Shown.{Shown}
+
+-- what a step shows: the answer, the act's letter, the delivery (0 none, 1 a message, 2 void) and the message's length
+pub record Shown : Type 0 where
+  pub answer : ℕ
+  pub act : ℕ
+  pub delivery : ℕ
+  pub size : ℕ
 
 -- "the heading line is always printed first": step kind from to answer act outcome
 unfoldable pub heading : List ℕ
@@ -17,11 +23,11 @@ heading =
     ∷ 111 ∷ 117 ∷ 116 ∷ 99 ∷ 111 ∷ 109 ∷ 101 ∷ 10 ∷ []
 
 -- a number, and a letter, each with a space after it
-unfoldable pub numbered : ℕ → List ℕ
+abbrev pub numbered : ℕ → List ℕ
 numbered n = decimal n ++ (32 ∷ [])
 
 -- a letter and a space
-unfoldable pub lettered : ℕ → List ℕ
+abbrev pub lettered : ℕ → List ℕ
 lettered c = c ∷ 32 ∷ []
 
 -- "outcome is -, void, or m and the message in hex"; "hex is .. left out for no bytes"; the line ends with it

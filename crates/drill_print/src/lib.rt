@@ -1,19 +1,35 @@
 // What a drill prints, put into a lent buffer piece by piece.
-#![tactic(auto)]
+#![tactic(auto, using(crate::proofs::Prints::printing), unfolding(crate::specs::Text::outcome_text, crate::specs::Text::bad, drill_words::specs::Numbers::letter, drill_words::specs::Numbers::decimal, octets::specs::Bytes::pick))]
 
-ghost use Rattle.std.specs.Prelude.{◌≡◌, ◌+◌, ◌*◌, ◌≤◌, ◌<◌, length, take};
-ghost use Rattle.octets.specs.Bytes.{put};
+ghost use Rattle.std.specs.Prelude.{◌≡◌, List, ℕ, ◌+◌, ◌*◌, ◌≤◌, ◌<◌, length, take};
 ghost use Rattle.drill_words.specs.Numbers.{digit, decimal, letter, hex_of};
+ghost use Rattle.drill_lines.specs.Read.{IsStep};
 ghost use Rattle.drill_print.specs.Text.{numbered, lettered, outcome_text, line_text, bad};
-ghost use Rattle.drill_print.specs.Printed.{Printed};
+ghost use Rattle.drill_print.specs.Printed.{Wrote, delivery_of, size_of, shown_by};
 
-// What a step of the drill shows: the answer, the act, the delivery (0 none, 1 a message, 2 void) and the message's length.
+use drill_lines::Step;
+
+// A lent buffer, and how many of its bytes are printed.
+#[derive(Drop)]
+pub struct Page<'a> {
+    pub text: &'a mut [u8],
+    pub at: usize,
+}
+
+// What a step of the drill delivered: nothing, a message of so many bytes, or void.
+#[derive(Clone, Copy)]
+pub enum Outcome {
+    Nothing,
+    Message(usize),
+    Void,
+}
+
+// What a step of the drill shows: the answer, the act's letter, and the outcome.
 #[derive(Clone, Copy)]
 pub struct Shown {
     pub answer: usize,
     pub act: u8,
-    pub delivery: u32,
-    pub size: usize,
+    pub outcome: Outcome,
 }
 
 // A hex digit's letter.
@@ -21,124 +37,110 @@ fn letter_of(d: u8) -> u8
     requires { d < 16 }
     ensures { result ≡ letter d }
 {
-    if d < 10 { 48 + d } else { 87 + d }
-}
-
-// The first n bytes of `s` in hex, put in.
-fn put_hex(out: &mut [u8], at: usize, s: &[u8], n: usize)
-    requires { (at + 2 * n ≤ length out.old) × (n ≤ length s.now) }
-    ensures { out.new ≡ put at (hex_of (take n s.now)) out.old }
-{
-    let mut i = 0;
-    while i < n {
-        out[at + 2 * i] = letter_of(s[i] / 16);
-        out[at + 2 * i + 1] = letter_of(s[i] % 16);
-        i += 1;
-    }
+    if d < 10 { b'0' + d } else { b'a' + (d - 10) }
 }
 
 // The last decimal digit of a number, as a character.
 fn digit_of(n: usize) -> u8
     ensures { result ≡ digit n }
 {
-    48 + (n % 10) as u8
+    b'0' + (n % 10) as u8
 }
 
-// A number below 10,000 in decimal, put in; where it ends.
-fn put_decimal(out: &mut [u8], at: usize, n: usize) -> usize
-    requires { at + 4 ≤ length out.old }
-    ensures { (out.new ≡ put at (decimal n) out.old) × (result ≡ at + length (decimal n)) × (result ≤ at + 4) }
-{
-    if n < 10 {
-        out[at] = digit_of(n);
-        return at + 1;
+impl Page<'_> {
+    // Bytes.
+    pub fn put(&mut self, s: &[u8])
+        requires { self.old.at + length s.now ≤ length self.old.text.now }
+        ensures { Wrote s.now self.old self.new }
+    {
+        octets::copy_at(self.text, self.at, s);
+        self.at += s.len();
     }
-    if n < 100 {
-        out[at] = digit_of(n / 10);
-        out[at + 1] = digit_of(n);
-        return at + 2;
+
+    // Bytes in hex.
+    fn put_hex(&mut self, s: &[u8])
+        requires { self.old.at + 2 * length s.now ≤ length self.old.text.now }
+        ensures { Wrote (hex_of s.now) self.old self.new }
+    {
+        for x in s {
+            self.put(&[letter_of(*x / 16), letter_of(*x % 16)]);
+        }
     }
-    if n < 1000 {
-        out[at] = digit_of(n / 100);
-        out[at + 1] = digit_of(n / 10);
-        out[at + 2] = digit_of(n);
-        return at + 3;
+
+    // A number below 10,000 in decimal, without a zero in front.
+    fn put_decimal(&mut self, n: usize)
+        requires { self.old.at + 4 ≤ length self.old.text.now }
+        ensures { Wrote (decimal n) self.old self.new × (self.new.at ≤ self.old.at + 4) }
+    {
+        let d = [
+            digit_of(n / 1000),
+            digit_of(n / 100),
+            digit_of(n / 10),
+            digit_of(n),
+        ];
+        match n {
+            0..=9 => self.put(&d[3..]),
+            10..=99 => self.put(&d[2..]),
+            100..=999 => self.put(&d[1..]),
+            _ => self.put(&d),
+        }
     }
-    out[at] = digit_of(n / 1000);
-    out[at + 1] = digit_of(n / 100);
-    out[at + 2] = digit_of(n / 10);
-    out[at + 3] = digit_of(n);
-    at + 4
-}
 
-// A number and a space.
-fn put_number(text: &mut [u8], p: usize, n: usize) -> usize
-    requires { p + 5 ≤ length text.old }
-    ensures { Printed (numbered n) p text.old text.new result × (result ≤ p + 5) }
-{
-    let e = put_decimal(text, p, n);
-    octets::copy_at(text, e, b" ");
-    e + 1
-}
-
-// A letter and a space.
-fn put_letter(text: &mut [u8], p: usize, c: u8) -> usize
-    requires { p + 2 ≤ length text.old }
-    ensures { Printed (lettered c) p text.old text.new result × (result ≤ p + 2) }
-{
-    text[p] = c;
-    text[p + 1] = b' ';
-    p + 2
-}
-
-// A message in hex, after m, and the end of the line.
-fn put_message(text: &mut [u8], p: usize, message: &[u8], size: usize) -> usize
-    requires { (p + 130 ≤ length text.old) × (size ≤ 64) × (size ≤ length message.now) }
-    ensures { Printed (outcome_text 1 (take size message.now)) p text.old text.new result × (result ≤ p + 130) }
-{
-    octets::copy_at(text, p, b"m");
-    put_hex(text, p + 1, message, size);
-    octets::copy_at(text, p + 1 + 2 * size, b"\n");
-    p + 2 + 2 * size
-}
-
-// The outcome, and the end of the line.
-fn put_outcome(text: &mut [u8], p: usize, delivery: u32, message: &[u8], size: usize) -> usize
-    requires { (p + 130 ≤ length text.old) × (size ≤ 64) × (size ≤ length message.now) }
-    ensures { Printed (outcome_text delivery (take size message.now)) p text.old text.new result × (result ≤ p + 130) }
-{
-    if delivery == 1 {
-        return put_message(text, p, message, size);
+    // A number and a space.
+    fn put_number(&mut self, n: usize)
+        requires { self.old.at + 5 ≤ length self.old.text.now }
+        ensures { Wrote (numbered n) self.old self.new × (self.new.at ≤ self.old.at + 5) }
+    {
+        self.put_decimal(n);
+        self.put(b" ");
     }
-    if delivery == 2 {
-        octets::copy_at(text, p, b"void\n");
-        return p + 5;
+
+    // A letter and a space.
+    fn put_letter(&mut self, c: u8)
+        requires { self.old.at + 2 ≤ length self.old.text.now }
+        ensures { Wrote (lettered c) self.old self.new × (self.new.at ≤ self.old.at + 2) }
+    {
+        self.put(&[c, b' ']);
     }
-    octets::copy_at(text, p, b"-\n");
-    p + 2
-}
 
-// The line of a step.
-pub fn put_line(text: &mut [u8], p: usize, k: usize, line: &[u8], s: Shown, message: &[u8]) -> usize
-    requires { (p + 154 ≤ length text.old) × (s.size ≤ 64) × (s.size ≤ length message.now) }
-    ensures { Printed (line_text k line.now s (take s.size message.now)) p text.old text.new result × (result ≤ p + 154) }
-{
-    let p1 = put_number(text, p, k);
-    let p2 = put_letter(text, p1, drill_lines::kind_in(line));
-    let p3 = put_number(text, p2, drill_words::number_in(line, 1));
-    let p4 = put_number(text, p3, drill_words::number_in(line, 2));
-    let p5 = put_number(text, p4, s.answer);
-    let p6 = put_letter(text, p5, s.act);
-    put_outcome(text, p6, s.delivery, message, s.size)
-}
+    // The outcome, and the end of the line: a message in hex, after m.
+    fn put_outcome(&mut self, x: Outcome, message: &[u8])
+        requires { (self.old.at + 130 ≤ length self.old.text.now) × (size_of x ≤ 64) × (size_of x ≤ length message.now) }
+        ensures { Wrote (outcome_text (delivery_of x) (take (size_of x) message.now)) self.old self.new × (self.new.at ≤ self.old.at + 130) }
+    {
+        match x {
+            Outcome::Message(n) => {
+                self.put(b"m");
+                self.put_hex(&message[..n]);
+                self.put(b"\n");
+            }
+            Outcome::Void => self.put(b"void\n"),
+            Outcome::Nothing => self.put(b"-\n"),
+        }
+    }
 
-// That a line is bad.
-pub fn put_bad(text: &mut [u8], p: usize, n: usize) -> usize
-    requires { p + 14 ≤ length text.old }
-    ensures { Printed (bad n) p text.old text.new result × (result ≤ p + 14) }
-{
-    octets::copy_at(text, p, b"bad line ");
-    let e = put_decimal(text, p + 9, n);
-    octets::copy_at(text, e, b"\n");
-    e + 1
+    // The line of a step.
+    pub fn put_line(&mut self, k: usize, step: Step, s: Shown, message: &[u8])
+        requires { (self.old.at + 154 ≤ length self.old.text.now) × (size_of s.outcome ≤ 64) × (size_of s.outcome ≤ length message.now) }
+        ensures { ((l : List ℕ) → IsStep step.entry l → Wrote (line_text k l (shown_by s) (take (size_of s.outcome) message.now)) self.old self.new)
+            × (self.new.at ≤ self.old.at + 154) }
+    {
+        self.put_number(k);
+        self.put_letter(step.handed.letter());
+        self.put_number(step.from);
+        self.put_number(step.to);
+        self.put_number(s.answer);
+        self.put_letter(s.act);
+        self.put_outcome(s.outcome, message);
+    }
+
+    // That line n is bad.
+    pub fn put_bad(&mut self, n: usize)
+        requires { self.old.at + 14 ≤ length self.old.text.now }
+        ensures { Wrote (bad n) self.old self.new × (self.new.at ≤ self.old.at + 14) }
+    {
+        self.put(b"bad line ");
+        self.put_decimal(n);
+        self.put(b"\n");
+    }
 }

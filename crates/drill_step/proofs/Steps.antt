@@ -4,7 +4,7 @@ use Prim.Native.Nat.{ℕ, ◌+◌, ◌-◌, ◌*◌, ◌≤◌}
 use mathlib.Core.List.{List}
 use native.Mathlib.Omega.{arith}
 use borrow.Rule.Slice.PartMut.{put_mid}
-use lib.ListN.{length, take, drop}
+use lib.ListN.{length, take, drop, replicate}
 use Rattle.record.specs.Form.{out_bytes}
 use Rattle.octets.specs.Bytes.{part, put}
 use Rattle.octets.proofs.Laws.{length_part}
@@ -12,10 +12,15 @@ use Rattle.board_step.specs.declared.Stepped.{Stepped}
 use Rattle.board_step.specs.Step.{Outcome, outcome, step_of}
 use Rattle.drill_boards.specs.Held.{zeros}
 use Rattle.drill_boards.specs.Room.{state_at}
-use Rattle.drill_step.specs.Asked.{step_from, Stepping}
+use Rattle.drill_step.specs.Asked.{Shaped, step_from, Stepping}
 use Rattle.drill_boards.proofs.Zeros.{zeros_length}
 use Rattle.drill_step.proofs.Starts.{mid_put}
 use Rattle.drill_step.proofs.Bounds.{Bounded, step_bounded}
+
+-- a buffer filled with zeros
+pub filled : (n : ℕ) (s new : List ℕ) → length s ≡ n → new ≡ replicate (length s) 0 → new ≡ zeros n
+unfolding zeros
+filled n s new l e = e ∙ ap (λ (m : ℕ). replicate m 0) l
 
 module _ (states : List ℕ) (from to : ℕ) (r : List ℕ) (lo : 1 ≤ to) (hi : to ≤ 7) (ls : length states ≡ 35588) where
   abbrev a : ℕ
@@ -54,3 +59,6 @@ module _ (states : List ℕ) (from to : ℕ) (r : List ℕ) (lo : 1 ≤ to) (hi 
 
     pub message_short : x.message_length ≤ 64
     message_short = rw S.answer_is bounded.message
+
+    pub shape : Shaped x.delivery x.message_length
+    shape = rw S.answer_is bounded.shape

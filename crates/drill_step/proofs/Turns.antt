@@ -12,6 +12,8 @@ use Rattle.drill_boards.specs.Held.{put_out_yet, with_record, act_of}
 use Rattle.drill_step.specs.Boards.{record_for, step_in, put_by, shown, turn, taken, missing, turn_by}
 use Rattle.drill_boards.specs.Room.{boards_in}
 use Rattle.table.proofs.Within.{board_number}
+use Rattle.drill_lines.specs.declared.Small.{Small}
+use Rattle.drill_lines.specs.declared.Step.{Step}
 use Rattle.drill_step.specs.Asked.{step_from, Handing, Stepping}
 use Rattle.drill_boards.proofs.Slots.{state_put}
 
@@ -54,9 +56,9 @@ pub record Numbers (from to : ℕ) : Type 0 where
   pub to_one : 1 ≤ to
   pub to_few : to ≤ 7
 
-pub numbers : (b : Table) (message : List ℕ) (from to : ℕ) (l kept : List ℕ) → Handing b message from to l kept → Numbers from to
-numbers b message from to l kept h =
-    let (f1, f2) = board_number b from h.sends in
-    let (t1, t2) = board_number b to h.takes in
-    let few = h.small.few in
+pub numbers : (b : Small) (message : List ℕ) (s : Step) → Handing b.limits.table message s → Numbers s.from s.to
+numbers b message s h =
+    let (f1, f2) = board_number b.limits.table s.from h.sends in
+    let (t1, t2) = board_number b.limits.table s.to h.takes in
+    let few = b.few in
     record { from_one = f1; from_few = omega arith; to_one = t1; to_few = omega arith }

@@ -1,28 +1,29 @@
 -- What the functions of a drill's step ask of and tell one another.
-use Rattle.std.specs.Prelude.{◌≡◌, true, List, ℕ, ◌-◌, ◌*◌, ◌≤◌, length}
+use Rattle.std.specs.Prelude.{◌≡◌, true, List, [], ℕ, ◌-◌, ◌*◌, ◌≤◌, length}
 use Rattle.record.specs.Form.{out_bytes}
 use Rattle.octets.specs.Bytes.{put}
-use Rattle.table.specs.Table.{limits, is_board}
+use Rattle.table.specs.Table.{is_board}
 use Rattle.table.specs.declared.Table.{Table}
 use Rattle.board_step.specs.Step.{Outcome, step_of}
 use Rattle.board_step.specs.declared.Stepped.{Stepped}
-use Rattle.drill_boards.specs.Held.{zeros}
-use Rattle.drill_boards.specs.Room.{state_at}
+use Rattle.drill_lines.specs.declared.Handed.{Handed}
+use Rattle.drill_lines.specs.declared.Handed.TheVariants.{Raw}
+use Rattle.drill_lines.specs.declared.Step.{Step}
+use Rattle.drill_boards.specs.Held.{Boards, zeros}
+use Rattle.drill_boards.specs.Room.{state_at, boards_in}
+use Rattle.drill_step.specs.declared.Room.{Room}
 
--- a table of a drill: n up to 7 and L up to 64
-pub record Small (b : Table) : Type 0 where
-  pub limited : limits b ≡ true
-  pub few : b.n ≤ 7
-  pub short : b.longest ≤ 64
+-- the hex of raw bytes
+abbrev pub raw_of : Handed → List ℕ
+raw_of (Raw w) = w.now
+raw_of _ = []
 
--- what handing over a record of a line from one board to another asks for
-pub record Handing (b : Table) (message : List ℕ) (from to : ℕ) (l kept : List ℕ) : Type 0 where
-  pub small : Small b
+-- what a step of one board's record to another asks for
+pub record Handing (b : Table) (message : List ℕ) (s : Step) : Type 0 where
   pub fits : length message ≤ b.longest
-  pub sends : is_board b from ≡ true
-  pub takes : is_board b to ≡ true
-  pub line : length l ≤ 1024
-  pub room : length kept ≡ 14336
+  pub sends : is_board b s.from ≡ true
+  pub takes : is_board b s.to ≡ true
+  pub raw_few : length (raw_of s.handed) ≤ 1024
 
 -- the step of board `to`, whose state stands in `states`
 unfoldable pub step_from : List ℕ → ℕ → ℕ → List ℕ → Outcome
@@ -37,9 +38,33 @@ pub record Stepping (states : List ℕ) (from to : ℕ) (r : List ℕ) (x : Step
   pub long : length (step_from states from to r).state ≡ 5084
 
 -- the lengths of the lent buffers
-pub record DrillRoom (states kept handed out delivery : List ℕ) : Type 0 where
-  pub states_long : length states ≡ 35588
-  pub kept_long : length kept ≡ 14336
-  pub handed_long : length handed ≡ out_bytes
-  pub out_long : length out ≡ out_bytes
-  pub delivery_long : length delivery ≡ 64
+pub record DrillRoom (r : Room) : Type 0 where
+  pub states_long : length r.states.now ≡ 35588
+  pub kept_long : length r.kept.now ≡ 14336
+  pub handed_long : length r.handed.now ≡ out_bytes
+  pub out_long : length r.out.now ≡ out_bytes
+  pub delivery_long : length r.delivery.now ≡ 64
+
+-- they are clean
+pub record Cleared (r : Room) : Type 0 where
+  pub states_zero : r.states.now ≡ zeros 35588
+  pub kept_zero : r.kept.now ≡ zeros 14336
+  pub handed_zero : r.handed.now ≡ zeros out_bytes
+  pub out_zero : r.out.now ≡ zeros out_bytes
+  pub delivery_zero : r.delivery.now ≡ zeros 64
+
+-- the same lent buffers
+pub record SameRoom (a b : Room) : Type 0 where
+  pub states_same : b.states.ghost_name ≡ a.states.ghost_name
+  pub kept_same : b.kept.ghost_name ≡ a.kept.ghost_name
+  pub handed_same : b.handed.ghost_name ≡ a.handed.ghost_name
+  pub out_same : b.out.ghost_name ≡ a.out.ghost_name
+  pub delivery_same : b.delivery.ghost_name ≡ a.delivery.ghost_name
+
+-- the boards that they hold
+abbrev pub boards_of : Room → Boards
+boards_of r = boards_in r.states.now r.kept.now
+
+-- a delivery and a length as a step answers them: only a message has one
+abbrev pub Shaped : ℕ → ℕ → Type 0
+Shaped d n = (d ≤ 2) × ((d ≡ 1 → ⊥) → n ≡ 0)

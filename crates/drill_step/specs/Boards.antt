@@ -10,7 +10,7 @@ use Rattle.board.specs.Started.{start_of}
 use Rattle.board_send.specs.Sent.{send_record}
 use Rattle.board_step.specs.Step.{Outcome, step_of}
 use Rattle.drill_boards.specs.Held.{Boards, zeros, put_out_yet, with_record, with_state, act_of}
-use Rattle.drill_print.specs.declared.Shown.{Shown}
+use Rattle.drill_print.specs.Text.{Shown}
 
 -- at first: "a board keeps the rules if it starts once". A state buffer of 5,084 bytes is long enough: n × s_max is at most 7 × 68
 unfoldable pub fresh : Table → Boards

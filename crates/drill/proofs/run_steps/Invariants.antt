@@ -1,12 +1,6 @@
--- `drill::run_steps` meets its contract.
--- Assumes nothing.
-use Prim.Native.Nat.{◌+◌, ◌-◌}
-use Rattle.drill_boards.specs.Room.{boards_in}
-use Rattle.drill.proofs.Goings.{Run}
+use Rattle.drill_lines.specs.Read.{numbered}
+use Rattle.drill.proofs.Goings.{Going}
 use Rattle.drill.proofs.run_steps.Given as goal
 
 abbrev pub invariant-loop-k : goal.invariant-loop-k
-invariant-loop-k l = Run l.b l.x l.message l.count l.input l.start (boards_in l.initial.states l.initial.kept) l.initial.text l.from l.states l.kept l.handed l.out l.delivery l.text l.k l.at l.p
-
-abbrev pub decreases-loop-k : goal.decreases-loop-k
-decreases-loop-k l = l.count + 1 - l.k
+invariant-loop-k l = Going l.o.table.limits.table (numbered l.o.breakers) l.message l.o.count l.o.rest.now l.initial.room l.initial.page l.k l.rest l.room l.page

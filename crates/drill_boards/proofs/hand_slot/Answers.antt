@@ -1,12 +1,10 @@
--- `drill_boards::hand_slot` meets its contract.
--- Assumes nothing.
-use Rattle.drill_boards.proofs.Copied.{copied}
+use mathlib.Core.Path.{refl, ◌∙◌}
 use native.Mathlib.Omega.{arith}
-use Rattle.drill_boards.specs.Room.{slot}
+use lib.ListN.{length}
+use Rattle.drill_words.proofs.Fronts.{front}
 use Rattle.drill_boards.proofs.hand_slot.Goals as goal
 
 pub returns : goal.returns
-unfolding slot
 returns c =
-    let a = c.args in let slot_length = c.slot_length-n in
-    (rw (← slot_length.ensures.0) (copied slot_length.result _ a.kept.now a.handed.now c.copy_part.new.dst (omega arith) (omega arith) c.copy_part.ensures), omega arith)
+    let r = c.slot-r.result.now in
+    (front (length r) r c.args.handed.now c.copy_at.new.dst refl (omega arith) c.copy_at.ensures ∙ c.slot-r.ensures.0, omega arith)

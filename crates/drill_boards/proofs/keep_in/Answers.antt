@@ -1,9 +1,11 @@
--- `drill_boards::keep_in` meets its contract.
--- Assumes nothing.
-use Rattle.drill_boards.proofs.Copied.{kept_record}
+use mathlib.Core.Path.{ap, ◌∙◌}
+use Prim.Native.Nat.{◌+◌, ◌*◌}
+use lib.ListN.{length}
+use Rattle.octets.specs.Bytes.{put, two}
+use Rattle.octets.proofs.Laws.{put_put}
 use Rattle.drill_boards.proofs.keep_in.Goals as goal
 
 pub returns : goal.returns
 returns c =
-    let a = c.args in let put_two = c.put_two in
-    kept_record a.len _ a.out.now a.kept.now put_two.new.s c.copy_part.new.dst put_two.ensures c.copy_part.ensures
+    let a = c.args in
+    c.copy_at.ensures ∙ ap (put (a.j * 1024 + 2) a.r.now) c.put_two.ensures ∙ put_put (two (length a.r.now)) a.r.now a.kept.now (a.j * 1024)

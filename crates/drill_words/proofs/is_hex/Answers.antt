@@ -1,10 +1,11 @@
 use Rattle.drill_words.specs.Numbers.{is_hex}
+use Rattle.drill_words.proofs.Counting.{digits_are}
 use Rattle.drill_words.proofs.is_hex.Goals as goal
 
-pub returns-then-not-hex_digits : goal.returns-then-not-hex_digits
+pub returns-then-hex_digits : goal.returns-then-hex_digits
 unfolding is_hex
-returns-then-not-hex_digits c = rw (← c.hex_digits.ensures, c.if-not-hex_digits.true)
+returns-then-hex_digits c = rw (digits_are c.args.w.now, ← c.hex_digits.ensures, c.if-hex_digits.true)
 
-pub returns : goal.returns
+pub returns-else-hex_digits : goal.returns-else-hex_digits
 unfolding is_hex
-returns c = rw (← c.hex_digits.ensures, c.if-not-hex_digits.false)
+returns-else-hex_digits c = rw (digits_are c.args.w.now, ← c.hex_digits.ensures, c.if-hex_digits.false)

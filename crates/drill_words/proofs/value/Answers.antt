@@ -1,13 +1,21 @@
-use Rattle.drill_words.proofs.Counting.{value_turn, value_end}
-use native.Mathlib.Omega.{arith}
-use mathlib.Core.Path.{refl, sym, ◌∙◌}
+use mathlib.Core.Path.{sym, ap, ◌∙◌}
+use Prim.Native.Nat.{ℕ, ◌+◌}
+use lib.ListN.{drop}
+use Rattle.drill_words.specs.Numbers.{value_of}
+use Rattle.drill_words.proofs.Counting.{value_turn, value_end, value_over}
 use Rattle.drill_words.proofs.value.Goals as goal
 
-pub loop-i-init : goal.loop-i-init
-loop-i-init c = (omega arith, (omega arith, refl))
+pub returns-in_err-v : goal.returns-in_err-v
+returns-in_err-v c =
+    let rest = drop (c.loop-x.x-index + 1) c.args.w.now in
+    rw c.from_residual.ensures
+    (sym (sym c.loop-x.invariant.rest ∙ value_turn c.args.w.now c.loop-x.x-index c.loop-x.v c.loop-x-test.true ∙ ap (λ (v : ℕ). value_of v rest) (sym c.in_err-v.ensures.0) ∙ value_over rest), tt)
 
-pub loop-i-preserved : goal.loop-i-preserved
-loop-i-preserved c = (omega arith, (c.with_digit-v.ensures.1, rw c.with_digit-v.ensures.0 (sym (value_turn c.args.w.now c.loop-i.i c.loop-i.v c.loop-i-test.true) ∙ c.loop-i.invariant.1.1)))
+pub loop-x-preserved : goal.loop-x-preserved
+loop-x-preserved c = record {
+  few = c.in_ok-v.ensures.1;
+  rest = rw c.in_ok-v.ensures.0 (sym (value_turn c.args.w.now c.loop-x.x-index c.loop-x.v c.loop-x-test.true) ∙ c.loop-x.invariant.rest);
+}
 
 pub returns : goal.returns
-returns c = (sym (value_end _ _ _ c.loop-i-test.false) ∙ c.loop-i.invariant.1.1, omega arith)
+returns c = (sym (value_end c.args.w.now c.loop-x.x-index c.loop-x.v c.loop-x-test.false) ∙ c.loop-x.invariant.rest, c.loop-x.invariant.few)
