@@ -28,7 +28,7 @@ FACTS = {
     'a state has its fixed part': r'(notice_state_bytes|fixed_bytes) ≤ length',
     'the fragments at the points lie in the area': r'\b(InArea|Ready|Weighable)\b',
     'a place for 64 values': r'base \+ p\.room \* 64',
-    'the drill room': r'\b(DrillRoom|Clean)\b',
+    'the drill room': r'\b(DrillRoom|Clean|Cleared)\b',
     'a fragment in a record': r'\bFragmentRoom\b',
     'a notice that can be compared': r'\bComparable\b',
 }
