@@ -1,7 +1,7 @@
 // A notice board: its start, its step, and the sender's record.
 #![tactic(auto)]
 
-ghost use Rattle.std.specs.Prelude.{◌≡◌, true, not, ◌&&◌, ◌||◌, List, ℕ, ◌+◌, ◌≤◌, ◌<◌, length, eqb};
+ghost use Rattle.std.specs.Prelude.{◌≡◌, true, not, ◌&&◌, ◌||◌, List, ℕ, ◌+◌, ◌≤◌, ◌<◌, length};
 ghost use Rattle.refusal.specs.Numbers.{refused};
 ghost use Rattle.refusal.specs.Answers.{sized_of};
 ghost use Rattle.record.specs.Kinds.{kind_number};
@@ -33,17 +33,6 @@ use table::{InLimits, Table, has_board};
 // How many bytes of a state follow the table and the own number.
 const AFTER_OWN: usize = STATE_BYTES - 4;
 
-// Whether it is a send.
-fn is_send(kind: Kind) -> bool
-    ensures { result ≡ eqb (kind_number kind) 1 }
-{
-    match kind {
-        Kind::Send => true,
-        Kind::Echo => false,
-        Kind::Vote => false,
-    }
-}
-
 // Whether it is a second send, or a second echo or vote from board i + 1.
 fn again(m: Heard, i: usize, kind: Kind) -> bool
     requires { i < 64 }
@@ -61,7 +50,7 @@ fn by_heard(b: InLimits, m: Heard, from: usize, o: Outline) -> Result<Outline, R
     requires { (is_board b.table from ≡ true) × (o.nodes ≡ 0) }
     ensures { plan_as result ≡ by_heard b.table m from (kind_number o.kind) o.len }
 {
-    if is_send(o.kind) && from != b.table.sender {
+    if o.kind.is_send() && from != b.table.sender {
         return Err(Refusal::Sender.into());
     }
     if m.done {
@@ -126,7 +115,7 @@ fn keep_notice(s: &mut [u8], kind: Kind, i: usize, len: usize, r: &[u8])
     requires { (notice_state_bytes ≤ length s.old) × (i < 64) × (len ≤ notice_most) × (3 + len ≤ length r.now) }
     ensures { s.new ≡ kept_notice (kind_number kind) i len r.now s.old }
 {
-    if is_send(kind) {
+    if kind.is_send() {
         return;
     }
     let a = place(kind, i);
@@ -220,9 +209,9 @@ fn take_in(s: &mut [u8], from: usize, r: &[u8], out: &mut [u8], o: Outline) -> u
         r: r,
         len: o.len,
     };
-    let after = settle(&asked, !is_send(o.kind));
+    let after = settle(&asked, !o.kind.is_send());
     write_heard(s, after);
-    put_out(out, r, o.len, is_send(o.kind), !m.voted && after.voted)
+    put_out(out, r, o.len, o.kind.is_send(), !m.voted && after.voted)
 }
 
 // Whether the state says that the board is done.
