@@ -11,7 +11,7 @@ ghost use Rattle.record.specs.Kinds.{kind_number};
 ghost use Rattle.board.specs.Stepped.{record_root, record_path, record_fragment, kept, KeptRoom};
 ghost use Rattle.board.specs.Started.{fresh_bytes, begun, start_of};
 
-use octets::{clear_at, copy_at, put_two};
+use octets::{clear_at, copy_at, copy_bytes, put_two};
 use record::{Kind, Outline, write_parts};
 use refusal::Refusal;
 use state::{ECHO_ROOTS, FIXED_BYTES, KEPT_LENGTHS, LONGEST, MARKS, OWN, VOTE_ROOTS, state_size};
@@ -32,7 +32,7 @@ pub fn keep_record(s: &mut [u8], max: usize, i: usize, o: Outline, r: &[u8])
             put_two(s, KEPT_LENGTHS + 2 * i, o.len);
             let a = 39 + 32 * o.nodes;
             let e = a + o.len;
-            copy_at(s, FIXED_BYTES + i * max, &r[a..e]);
+            copy_bytes(s, FIXED_BYTES + i * max, &r[a..e]);
         }
         Kind::Vote => copy_at(s, VOTE_ROOTS + 32 * i, &r[3..35]),
     }

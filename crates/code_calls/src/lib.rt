@@ -246,6 +246,6 @@ pub fn read_block(b: Table, block: &[u8], message: &mut [u8]) -> Result<u32, Ref
     let b = InLimits::try_from(b)?;
     may_read(b, block, message)?;
     let m = octets::four_at(block, 0);
-    octets::copy_at(message, 0, &block[4..4 + m]);
+    octets::copy_bytes(message, 0, &block[4..4 + m]);
     Ok(m as u32)
 }

@@ -41,7 +41,7 @@ pub fn hand_slot(kept: &[u8], j: usize, handed: &mut [u8]) -> usize
     ensures { (take result handed.new ≡ slot j kept.now) × (result ≤ out_bytes) }
 {
     let r = slot(kept, j);
-    octets::copy_at(handed, 0, r);
+    octets::copy_bytes(handed, 0, r);
     r.len()
 }
 
@@ -51,7 +51,7 @@ fn keep_in(kept: &mut [u8], j: usize, r: &[u8])
     ensures { kept.new ≡ put (j * 1024) (two (length r.now) ++ r.now) kept.old }
 {
     octets::put_two(kept, j * 1024, r.len());
-    octets::copy_at(kept, j * 1024 + 2, r);
+    octets::copy_bytes(kept, j * 1024 + 2, r);
 }
 
 // The kind of a record that was put out, by its first byte; none of no bytes.

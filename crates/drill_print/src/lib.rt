@@ -53,7 +53,7 @@ impl Page<'_> {
         requires { self.old.at + length s.now ≤ length self.old.text.now }
         ensures { Wrote s.now self.old self.new }
     {
-        octets::copy_at(self.text, self.at, s);
+        octets::copy_bytes(self.text, self.at, s);
         self.at += s.len();
     }
 

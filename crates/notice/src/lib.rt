@@ -7,7 +7,7 @@ ghost use Rattle.notice.specs.Form.{notice_most, parse_notice, notice_form, noti
 ghost use Rattle.notice.specs.Kinds.{NoticeKinds, notice_number, notice_read_as};
 ghost use Rattle.notice.specs.State.{notice_state_bytes, heard_at, notice_table, notice_own, heard_in, heard_bytes};
 
-use octets::{copy_at, eight_at, put_eight, put_two, two_at};
+use octets::{copy_bytes, eight_at, put_eight, put_two, two_at};
 use record::{Kind, Outline, field, need};
 use refusal::{Refusal, Refused};
 use state::Places;
@@ -117,7 +117,7 @@ pub fn write_notice(out: &mut [u8], kind: Kind, v: &[u8])
 {
     out[0] = 3 + kind.number();
     put_two(out, 1, v.len());
-    copy_at(out, 3, v);
+    copy_bytes(out, 3, v);
 }
 
 // The table in a state.

@@ -25,7 +25,7 @@ use notice::{
     read_table, write_heard, write_notice,
 };
 use notice_sound::{Asked, is_sound};
-use octets::{clear_at, copy_at};
+use octets::{clear_at, copy_bytes};
 use record::{Kind, Outline};
 use refusal::{Refusal, Refused};
 use table::{InLimits, Table, has_board};
@@ -120,7 +120,7 @@ fn keep_notice(s: &mut [u8], kind: Kind, i: usize, len: usize, r: &[u8])
     }
     let a = place(kind, i);
     s[a] = len as u8;
-    copy_at(s, a + 1, &r[3..3 + len]);
+    copy_bytes(s, a + 1, &r[3..3 + len]);
 }
 
 // The echo or the vote put out, with the notice of `r`, if there is one; its length.
@@ -253,7 +253,7 @@ fn take_record(
     if !is_done(s) {
         return answered(put, 0, 0);
     }
-    copy_at(delivery, 0, &r[3..3 + o.len]);
+    copy_bytes(delivery, 0, &r[3..3 + o.len]);
     answered(put, 1, o.len as u32)
 }
 

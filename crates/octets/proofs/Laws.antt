@@ -7,7 +7,7 @@ use native.Mathlib.Omega.{arith}
 use native.Mathlib.Numerals.{add-one}
 use native.Mathlib.Nat.{add-zero, add-suc, suc-add}
 use borrow.Rule.Slice.PartMut.{put_mid, Post-is}
-use lib.ListN.{length, get_or, take, drop, set, length-set, length-take, length-drop}
+use lib.ListN.{length, get_or, take, drop, set, length-set, drop_of_length-le, length-take, length-drop}
 use lib.Seq.{length-sets, sets-eq, get_or-set_same, get_or-set_other, drop-cons}
 use Rattle.octets.specs.Bytes.{part, put}
 
@@ -49,6 +49,16 @@ put_one s a b = refl
 pub part_cons : (a n : ℕ) (s : List ℕ) → a < length s → part a (suc n) s ≡ get_or s a 0 ∷ part (a + 1) n s
 unfolding part
 part_cons a n s h = rw (drop-cons s a 0, add-one)
+
+-- ---- turns of the loop that copies
+
+pub put_turn : (d src : List ℕ) (a i : ℕ) → i < length src → put (a + i) (drop i src) d ≡ put (a + (i + 1)) (drop (i + 1) src) (set d (a + i) (get_or src i 0))
+unfolding put
+put_turn d src a i h = rw (drop-cons src i 0, add-one, add-suc)
+
+pub put_end : (d src : List ℕ) (a i : ℕ) → length src ≤ i → put (a + i) (drop i src) d ≡ d
+unfolding put
+put_end d src a i h = rw drop_of_length-le
 
 -- a part by its two ends
 pub part_range : (a n : ℕ) (s : List ℕ) → take (a + n - a) (drop a s) ≡ part a n s

@@ -67,13 +67,25 @@ pub fn put_eight(s: &mut [u8], at: usize, x: u64)
     copy_at(s, at, &x.to_be_bytes());
 }
 
-// All of `src` put in.
+// All of `src` put in, where the compiler knows how long it is, as of a number, a digest or a root.
 // Stays: one line of the library's, under the definition that callers cite (`put`).
 pub fn copy_at(dst: &mut [u8], at: usize, src: &[u8])
     requires { at + length src.now ≤ length dst.old }
     ensures { dst.new ≡ put at src.now dst.old }
 {
     dst[at..at + src.len()].copy_from_slice(src);
+}
+
+// All of `src` put in, however long it is, as of a message or a fragment.
+// Stays: by a loop, since the compiler makes a call of C's memmove of the library's copy here, and boards need bring memcpy and memset alone.
+// (With the loop for numbers and digests too, a delivering step takes 16 bytes more of stack.)
+pub fn copy_bytes(dst: &mut [u8], at: usize, src: &[u8])
+    requires { at + length src.now ≤ length dst.old }
+    ensures { dst.new ≡ put at src.now dst.old }
+{
+    for i in 0..src.len() {
+        dst[at + i] = src[i];
+    }
 }
 
 // Whether the n bytes of `s` from a on are those of `r` from b on.

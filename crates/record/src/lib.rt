@@ -7,7 +7,7 @@ ghost use Rattle.refusal.specs.declared.Refusal.TheVariants.{Cut};
 ghost use Rattle.record.specs.Form.{Parts, record_of, form_of, nodes_most, path_ok, fragment_ok, parse, parse_root, parse_path, parse_fragment};
 ghost use Rattle.record.specs.Kinds.{Kinds, kind_number, read_as};
 
-use octets::{copy_at, put_two, two_at};
+use octets::{copy_at, copy_bytes, put_two, two_at};
 use refusal::{Refusal, Refused};
 
 // How many bytes an outgoing record buffer needs: as many as the longest record has.
@@ -229,7 +229,7 @@ pub fn write_parts(
     out[2] = 32;
     copy_at(out, 3, root);
     put_two(out, 35, nodes);
-    copy_at(out, 37, path);
+    copy_bytes(out, 37, path);
     put_two(out, 37 + 32 * nodes, fragment.len());
-    copy_at(out, 39 + 32 * nodes, fragment);
+    copy_bytes(out, 39 + 32 * nodes, fragment);
 }

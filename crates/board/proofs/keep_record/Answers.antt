@@ -13,7 +13,7 @@ pub returns-in-Echo : goal.returns-in-Echo
 unfolding kept pick part
 returns-in-Echo c =
     let a = c.args in let g : 39 + 32 * a.o.nodes + a.o.len - (39 + 32 * a.o.nodes) ≡ a.o.len = omega arith in
-    rw (c.in-Echo.is, c.copy_at-in-Echo.ensures, c.put_two.ensures, c.copy_at.ensures, g)
+    rw (c.in-Echo.is, c.copy_bytes.ensures, c.put_two.ensures, c.copy_at.ensures, g)
 
 pub returns-in-Vote : goal.returns-in-Vote
 unfolding kept pick part

@@ -27,11 +27,11 @@ returns-in_err-may_read c =
 pub four_at-m-requires : goal.four_at-m-requires
 four_at-m-requires c = read_four _ _ _ (sym c.in_ok-may_read.ensures)
 
-pub slice_bounds-copy_at-end : goal.slice_bounds-copy_at-end
-slice_bounds-copy_at-end c = let i = read_inside _ _ _ (sym c.in_ok-may_read.ensures) in omega (arith, i.0, c.four_at-m.ensures.0)
+pub slice_bounds-copy_bytes-end : goal.slice_bounds-copy_bytes-end
+slice_bounds-copy_bytes-end c = let i = read_inside _ _ _ (sym c.in_ok-may_read.ensures) in omega (arith, i.0, c.four_at-m.ensures.0)
 
-pub copy_at-requires : goal.copy_at-requires
-copy_at-requires c =
+pub copy_bytes-requires : goal.copy_bytes-requires
+copy_bytes-requires c =
     let i = read_inside _ _ _ (sym c.in_ok-may_read.ensures) in
     let m = c.four_at-m.result in
     omega (
@@ -47,5 +47,5 @@ returns c =
     let a = c.args in
     let m = c.four_at-m.result in
     let e : 4 + m - 4 ≡ m = omega arith in
-    subst (λ (b : Table). read_out (sized 0 m) c.copy_at.new.dst ≡ read_of b a.block.now a.message.now) c.in_ok-b.ensures
-    (read_done _ _ _ (sym c.in_ok-may_read.ensures) m _ c.four_at-m.ensures.0 (c.copy_at.ensures ∙ ap (λ (n : ℕ). put 0 (take n (drop 4 a.block.now)) a.message.now) e))
+    subst (λ (b : Table). read_out (sized 0 m) c.copy_bytes.new.dst ≡ read_of b a.block.now a.message.now) c.in_ok-b.ensures
+    (read_done _ _ _ (sym c.in_ok-may_read.ensures) m _ c.four_at-m.ensures.0 (c.copy_bytes.ensures ∙ ap (λ (n : ℕ). put 0 (take n (drop 4 a.block.now)) a.message.now) e))

@@ -8,4 +8,4 @@ use Rattle.drill_boards.proofs.keep_in.Goals as goal
 pub returns : goal.returns
 returns c =
     let a = c.args in
-    c.copy_at.ensures ∙ ap (put (a.j * 1024 + 2) a.r.now) c.put_two.ensures ∙ put_put (two (length a.r.now)) a.r.now a.kept.now (a.j * 1024)
+    c.copy_bytes.ensures ∙ ap (put (a.j * 1024 + 2) a.r.now) c.put_two.ensures ∙ put_put (two (length a.r.now)) a.r.now a.kept.now (a.j * 1024)

@@ -5,4 +5,4 @@ use Rattle.notice.proofs.write_notice.Goals as goal
 
 pub returns : goal.returns
 unfolding put notice_record
-returns c = rw (c.copy_at.ensures, c.put_two.ensures, c.number.ensures, ← notice_number_is c.args.kind)
+returns c = rw (c.copy_bytes.ensures, c.put_two.ensures, c.number.ensures, ← notice_number_is c.args.kind)

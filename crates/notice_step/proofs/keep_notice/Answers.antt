@@ -24,8 +24,8 @@ overflow_add-a c =
     let pre = c.requires in
     omega (arith, c.place-a.ensures, place_most (kind_number args.kind) args.i pre.1)
 
-pub copy_at-requires : goal.copy_at-requires
-copy_at-requires c =
+pub copy_bytes-requires : goal.copy_bytes-requires
+copy_bytes-requires c =
     let args = c.args in
     let pre = c.requires in
     rw (part_range 3 args.len args.r.now, length_part 3 args.len args.r.now pre.3)
@@ -36,4 +36,4 @@ unfolding kept_notice pick
 returns c =
     let args = c.args in
     let pre = c.requires in
-    rw (← c.is_send.ensures, c.if-is_send.false, ← c.place-a.ensures, ← part_range 3 args.len args.r.now) (c.copy_at.ensures ∙ note_written c.place-a.result args.len _ _)
+    rw (← c.is_send.ensures, c.if-is_send.false, ← c.place-a.ensures, ← part_range 3 args.len args.r.now) (c.copy_bytes.ensures ∙ note_written c.place-a.result args.len _ _)

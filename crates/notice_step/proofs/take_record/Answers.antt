@@ -30,16 +30,16 @@ overflow_add-o c =
     let q = taken_compares t in
     omega (arith, q.most)
 
-pub slice_bounds-copy_at-end : goal.slice_bounds-copy_at-end
-slice_bounds-copy_at-end c =
+pub slice_bounds-copy_bytes-end : goal.slice_bounds-copy_bytes-end
+slice_bounds-copy_bytes-end c =
     let args = c.args in
     let pre = c.requires in
     let t = notice_taken_lem args.s.now args.from args.r.now args.out.now args.delivery.now (kind_number args.o.kind) pre.0 args.o.len pre.1 in
     let q = taken_compares t in
     omega (arith, q.room)
 
-pub copy_at-requires : goal.copy_at-requires
-copy_at-requires c =
+pub copy_bytes-requires : goal.copy_bytes-requires
+copy_bytes-requires c =
     let args = c.args in
     let pre = c.requires in
     let t = notice_taken_lem args.s.now args.from args.r.now args.out.now args.delivery.now (kind_number args.o.kind) pre.0 args.o.len pre.1 in
@@ -61,4 +61,4 @@ returns c =
     let t = notice_taken_lem args.s.now args.from args.r.now args.out.now args.delivery.now (kind_number args.o.kind) pre.0 args.o.len pre.1 in
     let x = c.take_in-put in
     rw c.answered-2.ensures
-    (takes_delivering t x.new.s x.new.out x.result x.ensures.0 x.ensures.1 x.ensures.2 c.copy_at.new.dst (sym c.is_done.ensures ∙ c.if-not-is_done.false) (rw (part_range 3 args.o.len args.r.now) at c.copy_at.ensures))
+    (takes_delivering t x.new.s x.new.out x.result x.ensures.0 x.ensures.1 x.ensures.2 c.copy_bytes.new.dst (sym c.is_done.ensures ∙ c.if-not-is_done.false) (rw (part_range 3 args.o.len args.r.now) at c.copy_bytes.ensures))

@@ -16,23 +16,23 @@ copy_at-requires c = simp length-set (omega arith)
 pub put_two-requires : goal.put_two-requires
 put_two-requires c = rw c.copy_at.ensures (simp (length_put, length-set) (omega arith))
 
-pub copy_at-requires-2 : goal.copy_at-requires-2
-copy_at-requires-2 c = rw (c.put_two.ensures, c.copy_at.ensures) (simp (length_put, length-set) (omega arith))
+pub copy_bytes-requires : goal.copy_bytes-requires
+copy_bytes-requires c = rw (c.put_two.ensures, c.copy_at.ensures) (simp (length_put, length-set) (omega arith))
 
 pub put_two-requires-2 : goal.put_two-requires-2
-put_two-requires-2 c = rw (c.copy_at-2.ensures, c.put_two.ensures, c.copy_at.ensures) (simp (length_put, length-set) (omega arith))
+put_two-requires-2 c = rw (c.copy_bytes.ensures, c.put_two.ensures, c.copy_at.ensures) (simp (length_put, length-set) (omega arith))
 
-pub copy_at-requires-3 : goal.copy_at-requires-3
-copy_at-requires-3 c =
-    rw (c.put_two-2.ensures, c.copy_at-2.ensures, c.put_two.ensures, c.copy_at.ensures)
+pub copy_bytes-requires-2 : goal.copy_bytes-requires-2
+copy_bytes-requires-2 c =
+    rw (c.put_two-2.ensures, c.copy_bytes.ensures, c.put_two.ensures, c.copy_at.ensures)
     (simp (length_put, length-set) (omega arith))
 
 pub shape_of-out : goal.shape_of-out
 shape_of-out c =
     rw (
-      c.copy_at-3.ensures,
+      c.copy_bytes-2.ensures,
       c.put_two-2.ensures,
-      c.copy_at-2.ensures,
+      c.copy_bytes.ensures,
       c.put_two.ensures,
       c.copy_at.ensures,
     )
@@ -43,9 +43,9 @@ returns c =
     let p = c.requires in
     rw (
       ← c.number.ensures,
-      c.copy_at-3.ensures,
+      c.copy_bytes-2.ensures,
       c.put_two-2.ensures,
-      c.copy_at-2.ensures,
+      c.copy_bytes.ensures,
       c.put_two.ensures,
       c.copy_at.ensures,
     )
