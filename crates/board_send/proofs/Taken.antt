@@ -1,9 +1,9 @@
 -- A call that is not refused: what each of its refusals, not applying, says; and how the code's steps make up the promise.
 -- Assumes nothing.
-use mathlib.Core.Path.{◌≡◌, ap, ap₂, ◌∙◌}
+use mathlib.Core.Path.{◌≡◌, refl, ap, ap₂, ◌∙◌}
 use mathlib.Core.Bool.{true, not}
 use mathlib.Core.List.{List}
-use Prim.Native.Nat.{ℕ, zero, suc, ◌-◌, ◌<◌, ◌≤◌}
+use Prim.Native.Nat.{ℕ, zero, suc, ◌-◌, ◌≤◌}
 use native.Mathlib.Omega.{arith}
 use borrow.Author.Tests.{ltb-false}
 use lib.Dec.{ltb}
@@ -48,14 +48,15 @@ module _ (b : Table) (message : List ℕ) (to : ℕ) (out : List ℕ) where
         fits = ltb-false _ _ e4;
       }
 
-  -- what the code does once it knows the refusal
-  refused_by : (q : ℕ) → 0 < q → q ≡ send_refusal b message to out → send_out (sized q 0) out ≡ send_of b message to out
+  -- what the code does once it knows the refusal, by its number
+  pub send_refused : (q : ℕ) → (q ≡ 0 → ⊥) → q ≡ send_refusal b message to out → send_out (sized q 0) out ≡ send_of b message to out
   unfolding send_of send_by
-  refused_by zero some e = absurd (omega arith)
-  refused_by (suc q) some e = ap (λ (q : ℕ). send_by q b message to out) e
+  send_refused zero some e = absurd (some refl)
+  send_refused (suc q) some e = ap (λ (q : ℕ). send_by q b message to out) e
 
-  pub send_refused : (r : Refusal) → number_of r ≡ send_refusal b message to out → send_out (sized_of (Err r)) out ≡ send_of b message to out
-  send_refused r e = refused_by (number_of r) (number_some r) e
+  -- and by itself
+  pub send_refused_by : (r : Refusal) → number_of r ≡ send_refusal b message to out → send_out (sized_of (Err r)) out ≡ send_of b message to out
+  send_refused_by r e = let some = number_some r in send_refused (number_of r) (λ z. omega (arith, some, z)) e
 
   -- the record with k as the code has it
   abbrev made : ℕ → List ℕ

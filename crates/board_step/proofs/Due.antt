@@ -14,7 +14,7 @@ use Rattle.octets.specs.Sets.{has}
 use Rattle.octets.proofs.Laws.{length_part}
 use Rattle.octets.proofs.Picks.{and_l}
 use Rattle.octets.proofs.SetLaws.{set_of_lt}
-use Rattle.table.specs.Table.{k_of, s_max}
+use Rattle.table.specs.Table.{limits, k_of, s_max}
 use Rattle.table.specs.declared.Table.{Table}
 use Rattle.table.proofs.Within.{within}
 use Rattle.state.specs.State.{fixed_bytes, state_size, echo_at}
@@ -60,13 +60,14 @@ kept_lies max s i =
 module _ (b : Table) (m : Marks) (s r d : List ℕ) (set : ℕ) where
   -- what the call asks for
   pub deliver_asks : (ends : Bool) → Deliverable b m s r d ends → ends ≡ true → set ≡ usable_for b m s (record_root r)
-      → (2 * b.n ≤ length (from_on 40 s)) × (b.n * s_max b ≤ length (from_on fixed_bytes s)) × (set / 2 ^ b.n ≡ 0) × (k_of b ≤ ones set)
+      → (limits b ≡ true) × (2 * b.n ≤ length (from_on 40 s)) × (b.n * s_max b ≤ length (from_on fixed_bytes s)) × (set / 2 ^ b.n ≡ 0) × (k_of b ≤ ones set)
       × ((i : ℕ) → i < b.n → has set i ≡ true → (1 ≤ two_at (from_on 40 s) (2 * i)) × (two_at (from_on 40 s) (2 * i) ≤ s_max b))
       × (length (record_root r) ≡ 32) × (b.longest ≤ length d)
   unfolding state_size
   deliver_asks ends h on e =
       let few = (within b h.lim).few in
       let room : fixed_bytes + b.n * s_max b ≤ length s = h.room in (
+        h.lim,
         rw (all_from 40 s, length-drop) (omega arith),
         rw (all_from fixed_bytes s, length-drop) (omega arith),
         rw e (usable_few b m s (record_root r)),

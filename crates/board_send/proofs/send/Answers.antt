@@ -6,13 +6,13 @@ use native.Mathlib.Omega.{arith}
 use Rattle.std.proofs.lemmas.Result.{err_from_is_err_and}
 use Rattle.table.specs.Table.{k_of}
 use Rattle.table.proofs.Within.{within}
-use Rattle.board_send.proofs.Taken.{send_taken, send_refused, send_made}
+use Rattle.board_send.proofs.Taken.{send_taken, send_refused_by, send_made}
 use Rattle.board_send.proofs.send.Goals as goal
 
 pub returns-in_err-c : goal.returns-in_err-c
 returns-in_err-c c =
     let p = err_from_is_err_and c.from_residual.result c.from_residual.ensures.1 in
-    rw (p.1, p.2) (send_refused _ _ _ _ c.in_err-c.field-0.0 c.in_err-c.ensures.number)
+    rw (p.1, p.2) (send_refused_by _ _ _ _ c.in_err-c.field-0.0 c.in_err-c.ensures.number)
 
 pub overflow_sub-to : goal.overflow_sub-to
 overflow_sub-to c = (send_taken _ _ _ _ (sym c.in_ok-c.ensures.number)).low

@@ -35,7 +35,7 @@ pub deliver-requires : goal.deliver-requires
 unfolding usable_for part
 deliver-requires c =
     let a = c.args in let p = c.requires in let naming = c.naming_usable-set in let e = naming.ensures in
-    deliver_asks a.b a.m a.s.now a.r.now a.delivery.now naming.result a.ends (p) c.if-not-ends.false e
+    let q = deliver_asks a.b a.m a.s.now a.r.now a.delivery.now naming.result a.ends p c.if-not-ends.false e in (q.1, q.2, q.3, q.4, q.5, q.6, q.7)
 
 pub returns : goal.returns
 unfolding delivered pick usable_for part
