@@ -1,17 +1,17 @@
 -- What a line's first word and its spaces say.
 use mathlib.Core.Path.{◌≡◌, refl}
-use Prim.Native.Nat.{ℕ, ◌+◌, ◌≤◌, ◌<◌}
+use Prim.Native.Nat.{ℕ, ◌+◌, ◌≤◌}
 use mathlib.Core.List.{List, [], ◌∷◌}
 use mathlib.Core.Bool.{Bool, true, false}
 use native.Mathlib.Omega.{arith}
-use borrow.Author.Tests.{leb-true, ltb-false, lt-leb, le-leb, ne_eqb}
-use lib.Dec.{eqb, leb}
+use lib.Dec.{eqb}
 use lib.ListN.{length, get_or}
 use Rattle.std.proofs.lemmas.Bool.Decides.{nat_tests}
 use Rattle.octets.specs.Bytes.{pick}
 use Rattle.octets.specs.Sets.{bit}
 use Rattle.drill_words.specs.Words.{upto, how_many, skip, word}
-use Rattle.drill_lines.specs.Lines.{fits, spaces, form, kind_in}
+use Rattle.drill_words.proofs.Finding.{word_short}
+use Rattle.drill_lines.specs.Lines.{form, kind_in}
 
 -- the first word begins as the line does
 first_case : (b : Bool) (x : ℕ) (u xs : List ℕ) → pick (eqb (length (pick b [] (x ∷ u))) 1) x 0 ≡ pick (eqb (length (pick b [] (x ∷ u))) 1) (get_or (pick b [] (x ∷ u)) 0 0) 0
@@ -37,4 +37,4 @@ many c (x ∷ xs) = let h = many_case (eqb x c) (how_many c xs) (length xs) (man
 pub no_form : (l : List ℕ) → form l 10000 ≡ false
 no_form l = let h = many 32 l in grind (arith, nat_tests)
 
-pub ruleset tests = (nat_tests, kind_is, no_form)
+pub ruleset tests = (nat_tests, kind_is, no_form, word_short)

@@ -1,5 +1,5 @@
 -- What a function that reads a line tells.
-use Rattle.std.specs.Prelude.{◌≡◌, ℕ, List, Bool, true, false, eqb, Option, Some, None, unwrap_or}
+use Rattle.std.specs.Prelude.{◌≡◌, ℕ, List, Bool, true, false, Option, Some, None, unwrap_or}
 use Rattle.drill_words.specs.Words.{word}
 use Rattle.drill_lines.specs.declared.Breakers.{Breakers as Named}
 use Rattle.drill_lines.specs.declared.Handed.{Handed}
