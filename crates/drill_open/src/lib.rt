@@ -4,7 +4,7 @@
 ghost use Rattle.std.specs.Prelude.{◌≡◌, ◌≤◌, length, MatchResult};
 ghost use Rattle.drill_open.specs.Next.{Line};
 
-use drill_lines::{Breakers, Small, breakers_in, count_in, message_in, table_in};
+use drill_lines::{Breakers, Small, count_in, message_in, right_breakers_in, right_table_in};
 
 // The number of the first line that is not right, or missing.
 #[derive(Clone, Copy)]
@@ -44,11 +44,11 @@ impl<'a> Opening<'a> {
         ensures { opened_by result message.new ≡ opening1 input.now }
     {
         let (line, rest) = next_line(input, 1)?;
-        let table = table_in(line).ok_or(BadLine { line: 1 })?;
+        let table = right_table_in(line).ok_or(BadLine { line: 1 })?;
         let (line, rest) = next_line(rest, 2)?;
-        let breakers = breakers_in(table, line).ok_or(BadLine { line: 2 })?;
+        let breakers = right_breakers_in(table.limits.table, line).ok_or(BadLine { line: 2 })?;
         let (line, rest) = next_line(rest, 3)?;
-        let hex = message_in(table, line).ok_or(BadLine { line: 3 })?;
+        let hex = message_in(table.limits.table, line).ok_or(BadLine { line: 3 })?;
         let (line, rest) = next_line(rest, 4)?;
         let count = count_in(line).ok_or(BadLine { line: 4 })?;
         drill_words::decode(hex, message);

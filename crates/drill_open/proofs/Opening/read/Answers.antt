@@ -20,33 +20,33 @@ returns-in_err-line c =
 pub returns-in_err-table : goal.returns-in_err-table
 returns-in_err-table c =
     let p = err_from_is_err_and c.from_residual-in_err-table.result c.from_residual-in_err-table.ensures.1 in
-    let bad = bad_number c.table_in.result 1 _ c.in_err-table.ensures.value in
-    let t : right_table c.in_ok-line.line.now ≡ false = rw c.in_err-table.ensures.ok_part at c.table_in.ensures in
+    let bad = bad_number c.right_table_in.result 1 _ c.in_err-table.ensures.value in
+    let t : right_table c.in_ok-line.line.now ≡ false = rw c.in_err-table.ensures.ok_part at c.right_table_in.ensures in
     rw (p.1, p.2, bad) (wrong1 c.in_ok-line.ensures t)
 
 pub returns-in_err-line-2 : goal.returns-in_err-line-2
 returns-in_err-line-2 c =
     let p = err_from_is_err_and c.from_residual-in_err-line-2.result c.from_residual-in_err-line-2.ensures.1 in
     let b = c.in_ok-table.table.limits.table in
-    let t1 : (right_table c.in_ok-line.line.now ≡ true) × (b ≡ table_in c.in_ok-line.line.now) = rw c.in_ok-table.ensures.ok_part at c.table_in.ensures in
+    let t1 : (right_table c.in_ok-line.line.now ≡ true) × (b ≡ table_in c.in_ok-line.line.now) = rw c.in_ok-table.ensures.ok_part at c.right_table_in.ensures in
     rw (p.1, p.2, c.in_err-line-2.ensures.0) (none2 c.in_ok-line.rest.now b c.in_err-line-2.ensures.1 ∙ right1 b c.in_ok-line.ensures t1)
 
 pub returns-in_err-breakers : goal.returns-in_err-breakers
 returns-in_err-breakers c =
     let p = err_from_is_err_and c.from_residual-in_err-breakers.result c.from_residual-in_err-breakers.ensures.1 in
-    let bad = bad_number c.breakers_in.result 2 _ c.in_err-breakers.ensures.value in
+    let bad = bad_number c.right_breakers_in.result 2 _ c.in_err-breakers.ensures.value in
     let b = c.in_ok-table.table.limits.table in
-    let t1 : (right_table c.in_ok-line.line.now ≡ true) × (b ≡ table_in c.in_ok-line.line.now) = rw c.in_ok-table.ensures.ok_part at c.table_in.ensures in
-    let t : right_breakers b c.in_ok-line-2.line.now ≡ false = rw c.in_err-breakers.ensures.ok_part at c.breakers_in.ensures in
+    let t1 : (right_table c.in_ok-line.line.now ≡ true) × (b ≡ table_in c.in_ok-line.line.now) = rw c.in_ok-table.ensures.ok_part at c.right_table_in.ensures in
+    let t : right_breakers b c.in_ok-line-2.line.now ≡ false = rw c.in_err-breakers.ensures.ok_part at c.right_breakers_in.ensures in
     rw (p.1, p.2, bad) (wrong2 b c.in_ok-line-2.ensures t ∙ right1 b c.in_ok-line.ensures t1)
 
 pub returns-in_err-line-3 : goal.returns-in_err-line-3
 returns-in_err-line-3 c =
     let p = err_from_is_err_and c.from_residual-in_err-line-3.result c.from_residual-in_err-line-3.ensures.1 in
     let b = c.in_ok-table.table.limits.table in
-    let t1 : (right_table c.in_ok-line.line.now ≡ true) × (b ≡ table_in c.in_ok-line.line.now) = rw c.in_ok-table.ensures.ok_part at c.table_in.ensures in
+    let t1 : (right_table c.in_ok-line.line.now ≡ true) × (b ≡ table_in c.in_ok-line.line.now) = rw c.in_ok-table.ensures.ok_part at c.right_table_in.ensures in
     let y = numbered c.in_ok-breakers.breakers in
-    let t2 : (right_breakers b c.in_ok-line-2.line.now ≡ true) × (y ≡ breakers_in c.in_ok-line-2.line.now) = rw c.in_ok-breakers.ensures.ok_part at c.breakers_in.ensures in
+    let t2 : (right_breakers b c.in_ok-line-2.line.now ≡ true) × (y ≡ breakers_in c.in_ok-line-2.line.now) = rw c.in_ok-breakers.ensures.ok_part at c.right_breakers_in.ensures in
     rw (p.1, p.2, c.in_err-line-3.ensures.0) (none3 c.in_ok-line-2.rest.now b y c.in_err-line-3.ensures.1 ∙ right2 b y c.in_ok-line-2.ensures t2 ∙ right1 b c.in_ok-line.ensures t1)
 
 pub returns-in_err-hex : goal.returns-in_err-hex
@@ -54,9 +54,9 @@ returns-in_err-hex c =
     let p = err_from_is_err_and c.from_residual-in_err-hex.result c.from_residual-in_err-hex.ensures.1 in
     let bad = bad_number c.message_in.result 3 _ c.in_err-hex.ensures.value in
     let b = c.in_ok-table.table.limits.table in
-    let t1 : (right_table c.in_ok-line.line.now ≡ true) × (b ≡ table_in c.in_ok-line.line.now) = rw c.in_ok-table.ensures.ok_part at c.table_in.ensures in
+    let t1 : (right_table c.in_ok-line.line.now ≡ true) × (b ≡ table_in c.in_ok-line.line.now) = rw c.in_ok-table.ensures.ok_part at c.right_table_in.ensures in
     let y = numbered c.in_ok-breakers.breakers in
-    let t2 : (right_breakers b c.in_ok-line-2.line.now ≡ true) × (y ≡ breakers_in c.in_ok-line-2.line.now) = rw c.in_ok-breakers.ensures.ok_part at c.breakers_in.ensures in
+    let t2 : (right_breakers b c.in_ok-line-2.line.now ≡ true) × (y ≡ breakers_in c.in_ok-line-2.line.now) = rw c.in_ok-breakers.ensures.ok_part at c.right_breakers_in.ensures in
     let t : right_message b c.in_ok-line-3.line.now ≡ false = rw c.in_err-hex.ensures.ok_part at c.message_in.ensures in
     rw (p.1, p.2, bad) (wrong3 b y c.in_ok-line-3.ensures t ∙ right2 b y c.in_ok-line-2.ensures t2 ∙ right1 b c.in_ok-line.ensures t1)
 
@@ -64,9 +64,9 @@ pub returns-in_err-line-4 : goal.returns-in_err-line-4
 returns-in_err-line-4 c =
     let p = err_from_is_err_and c.from_residual-in_err-line-4.result c.from_residual-in_err-line-4.ensures.1 in
     let b = c.in_ok-table.table.limits.table in
-    let t1 : (right_table c.in_ok-line.line.now ≡ true) × (b ≡ table_in c.in_ok-line.line.now) = rw c.in_ok-table.ensures.ok_part at c.table_in.ensures in
+    let t1 : (right_table c.in_ok-line.line.now ≡ true) × (b ≡ table_in c.in_ok-line.line.now) = rw c.in_ok-table.ensures.ok_part at c.right_table_in.ensures in
     let y = numbered c.in_ok-breakers.breakers in
-    let t2 : (right_breakers b c.in_ok-line-2.line.now ≡ true) × (y ≡ breakers_in c.in_ok-line-2.line.now) = rw c.in_ok-breakers.ensures.ok_part at c.breakers_in.ensures in
+    let t2 : (right_breakers b c.in_ok-line-2.line.now ≡ true) × (y ≡ breakers_in c.in_ok-line-2.line.now) = rw c.in_ok-breakers.ensures.ok_part at c.right_breakers_in.ensures in
     let m = c.in_ok-hex.hex.now in
     let t3 : (right_message b c.in_ok-line-3.line.now ≡ true) × (m ≡ word 1 c.in_ok-line-3.line.now) = rw c.in_ok-hex.ensures.ok_part at c.message_in.ensures in
     rw (p.1, p.2, c.in_err-line-4.ensures.0) (none4 c.in_ok-line-3.rest.now b y (from_hex m) c.in_err-line-4.ensures.1 ∙ right3 b y m c.in_ok-line-3.ensures t3 ∙ right2 b y c.in_ok-line-2.ensures t2 ∙ right1 b c.in_ok-line.ensures t1)
@@ -76,9 +76,9 @@ returns-in_err-count c =
     let p = err_from_is_err_and c.from_residual-in_err-count.result c.from_residual-in_err-count.ensures.1 in
     let bad = bad_number c.count_in.result 4 _ c.in_err-count.ensures.value in
     let b = c.in_ok-table.table.limits.table in
-    let t1 : (right_table c.in_ok-line.line.now ≡ true) × (b ≡ table_in c.in_ok-line.line.now) = rw c.in_ok-table.ensures.ok_part at c.table_in.ensures in
+    let t1 : (right_table c.in_ok-line.line.now ≡ true) × (b ≡ table_in c.in_ok-line.line.now) = rw c.in_ok-table.ensures.ok_part at c.right_table_in.ensures in
     let y = numbered c.in_ok-breakers.breakers in
-    let t2 : (right_breakers b c.in_ok-line-2.line.now ≡ true) × (y ≡ breakers_in c.in_ok-line-2.line.now) = rw c.in_ok-breakers.ensures.ok_part at c.breakers_in.ensures in
+    let t2 : (right_breakers b c.in_ok-line-2.line.now ≡ true) × (y ≡ breakers_in c.in_ok-line-2.line.now) = rw c.in_ok-breakers.ensures.ok_part at c.right_breakers_in.ensures in
     let m = c.in_ok-hex.hex.now in
     let t3 : (right_message b c.in_ok-line-3.line.now ≡ true) × (m ≡ word 1 c.in_ok-line-3.line.now) = rw c.in_ok-hex.ensures.ok_part at c.message_in.ensures in
     let t : right_count c.in_ok-line-4.line.now ≡ false = rw c.in_err-count.ensures.ok_part at c.count_in.ensures in
@@ -87,9 +87,9 @@ returns-in_err-count c =
 pub decode-requires : goal.decode-requires
 decode-requires c =
     let b = c.in_ok-table.table.limits.table in
-    let t1 : (right_table c.in_ok-line.line.now ≡ true) × (b ≡ table_in c.in_ok-line.line.now) = rw c.in_ok-table.ensures.ok_part at c.table_in.ensures in
+    let t1 : (right_table c.in_ok-line.line.now ≡ true) × (b ≡ table_in c.in_ok-line.line.now) = rw c.in_ok-table.ensures.ok_part at c.right_table_in.ensures in
     let y = numbered c.in_ok-breakers.breakers in
-    let t2 : (right_breakers b c.in_ok-line-2.line.now ≡ true) × (y ≡ breakers_in c.in_ok-line-2.line.now) = rw c.in_ok-breakers.ensures.ok_part at c.breakers_in.ensures in
+    let t2 : (right_breakers b c.in_ok-line-2.line.now ≡ true) × (y ≡ breakers_in c.in_ok-line-2.line.now) = rw c.in_ok-breakers.ensures.ok_part at c.right_breakers_in.ensures in
     let m = c.in_ok-hex.hex.now in
     let t3 : (right_message b c.in_ok-line-3.line.now ≡ true) × (m ≡ word 1 c.in_ok-line-3.line.now) = rw c.in_ok-hex.ensures.ok_part at c.message_in.ensures in
     let few = message_few b c.in_ok-line-3.line.now t3.0 in
@@ -98,9 +98,9 @@ decode-requires c =
 pub invariant_of-result : goal.invariant_of-result
 invariant_of-result c =
     let b = c.in_ok-table.table.limits.table in
-    let t1 : (right_table c.in_ok-line.line.now ≡ true) × (b ≡ table_in c.in_ok-line.line.now) = rw c.in_ok-table.ensures.ok_part at c.table_in.ensures in
+    let t1 : (right_table c.in_ok-line.line.now ≡ true) × (b ≡ table_in c.in_ok-line.line.now) = rw c.in_ok-table.ensures.ok_part at c.right_table_in.ensures in
     let y = numbered c.in_ok-breakers.breakers in
-    let t2 : (right_breakers b c.in_ok-line-2.line.now ≡ true) × (y ≡ breakers_in c.in_ok-line-2.line.now) = rw c.in_ok-breakers.ensures.ok_part at c.breakers_in.ensures in
+    let t2 : (right_breakers b c.in_ok-line-2.line.now ≡ true) × (y ≡ breakers_in c.in_ok-line-2.line.now) = rw c.in_ok-breakers.ensures.ok_part at c.right_breakers_in.ensures in
     let m = c.in_ok-hex.hex.now in
     let t3 : (right_message b c.in_ok-line-3.line.now ≡ true) × (m ≡ word 1 c.in_ok-line-3.line.now) = rw c.in_ok-hex.ensures.ok_part at c.message_in.ensures in
     let t4 : (right_count c.in_ok-line-4.line.now ≡ true) × (c.in_ok-count.count ≡ count_in c.in_ok-line-4.line.now) = rw c.in_ok-count.ensures.ok_part at c.count_in.ensures in
@@ -109,9 +109,9 @@ invariant_of-result c =
 pub returns : goal.returns
 returns c =
     let b = c.in_ok-table.table.limits.table in
-    let t1 : (right_table c.in_ok-line.line.now ≡ true) × (b ≡ table_in c.in_ok-line.line.now) = rw c.in_ok-table.ensures.ok_part at c.table_in.ensures in
+    let t1 : (right_table c.in_ok-line.line.now ≡ true) × (b ≡ table_in c.in_ok-line.line.now) = rw c.in_ok-table.ensures.ok_part at c.right_table_in.ensures in
     let y = numbered c.in_ok-breakers.breakers in
-    let t2 : (right_breakers b c.in_ok-line-2.line.now ≡ true) × (y ≡ breakers_in c.in_ok-line-2.line.now) = rw c.in_ok-breakers.ensures.ok_part at c.breakers_in.ensures in
+    let t2 : (right_breakers b c.in_ok-line-2.line.now ≡ true) × (y ≡ breakers_in c.in_ok-line-2.line.now) = rw c.in_ok-breakers.ensures.ok_part at c.right_breakers_in.ensures in
     let m = c.in_ok-hex.hex.now in
     let t3 : (right_message b c.in_ok-line-3.line.now ≡ true) × (m ≡ word 1 c.in_ok-line-3.line.now) = rw c.in_ok-hex.ensures.ok_part at c.message_in.ensures in
     let t4 : (right_count c.in_ok-line-4.line.now ≡ true) × (c.in_ok-count.count ≡ count_in c.in_ok-line-4.line.now) = rw c.in_ok-count.ensures.ok_part at c.count_in.ensures in
