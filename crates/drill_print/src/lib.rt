@@ -1,13 +1,12 @@
 // What a drill prints, put into a lent buffer piece by piece.
 #![tactic(auto, using(crate::proofs::Prints::printing), unfolding(crate::specs::Text::outcome_text, crate::specs::Text::bad, drill_words::specs::Numbers::letter, drill_words::specs::Numbers::decimal, octets::specs::Bytes::pick))]
 
-ghost use Rattle.std.specs.Prelude.{◌≡◌, List, ℕ, ◌+◌, ◌*◌, ◌≤◌, ◌<◌, length, take};
+ghost use Rattle.std.specs.Prelude.{◌≡◌, ◌+◌, ◌*◌, ◌≤◌, ◌<◌, length, take};
 ghost use Rattle.drill_words.specs.Numbers.{digit, decimal, letter, hex_of};
-ghost use Rattle.drill_lines.specs.Read.{IsStep};
 ghost use Rattle.drill_print.specs.Text.{numbered, lettered, outcome_text, line_text, bad};
 ghost use Rattle.drill_print.specs.Printed.{Wrote, delivery_of, size_of, shown_by};
 
-use drill_lines::Step;
+use drill_lines::{kind_in, number_in};
 
 // A lent buffer, and how many of its bytes are printed.
 #[derive(Drop)]
@@ -119,16 +118,15 @@ impl Page<'_> {
         }
     }
 
-    // The line of a step.
-    pub fn put_line(&mut self, k: usize, step: Step, s: Shown, message: &[u8])
+    // The line of step k, whose own line is `line`: its kind, from and to are printed as that line says them, right or not.
+    pub fn put_line(&mut self, k: usize, line: &[u8], s: Shown, message: &[u8])
         requires { (self.old.at + 154 ≤ length self.old.text.now) × (size_of s.outcome ≤ 64) × (size_of s.outcome ≤ length message.now) }
-        ensures { ((l : List ℕ) → IsStep step.entry l → Wrote (line_text k l (shown_by s) (take (size_of s.outcome) message.now)) self.old self.new)
-            × (self.new.at ≤ self.old.at + 154) }
+        ensures { Wrote (line_text k line.now (shown_by s) (take (size_of s.outcome) message.now)) self.old self.new × (self.new.at ≤ self.old.at + 154) }
     {
         self.put_number(k);
-        self.put_letter(step.handed.letter());
-        self.put_number(step.from);
-        self.put_number(step.to);
+        self.put_letter(kind_in(line));
+        self.put_number(number_in(line, 1));
+        self.put_number(number_in(line, 2));
         self.put_number(s.answer);
         self.put_letter(s.act);
         self.put_outcome(s.outcome, message);

@@ -6,7 +6,7 @@ use Rattle.drill_print.proofs.Page.put_line.Goals as goal
 pub returns : goal.returns
 unfolding line_text
 returns c = (
-  λ l s. rw (← s.kind_is, ← s.from_is, ← s.to_is, ← c.letter.ensures)
+  rw (← c.kind_in.ensures, ← c.number_in.ensures, ← c.number_in-2.ensures)
       (wrote_both c.put_number.ensures.0 (wrote_both c.put_letter.ensures.0 (wrote_both c.put_number-2.ensures.0 (wrote_both c.put_number-3.ensures.0 (wrote_both c.put_number-4.ensures.0 (wrote_both c.put_letter-2.ensures.0 c.put_outcome.ensures.0)))))),
   omega (arith, c.put_number.ensures.1, c.put_letter.ensures.1, c.put_number-2.ensures.1, c.put_number-3.ensures.1, c.put_number-4.ensures.1, c.put_letter-2.ensures.1, c.put_outcome.ensures.1),
 )
