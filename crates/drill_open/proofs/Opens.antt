@@ -11,7 +11,7 @@ use Rattle.std.specs.Prelude.{Option, None, Some, Err, ok_or}
 use Rattle.octets.specs.Bytes.{pick}
 use Rattle.octets.proofs.Picks.{and_l, and_r}
 use Rattle.table.specs.declared.Table.{Table}
-use Rattle.drill_words.specs.Words.{upto, past, word}
+use Rattle.drill_words.specs.Words.{upto, word}
 use Rattle.drill_words.specs.Numbers.{number_of, is_hex, from_hex}
 use Rattle.drill_lines.specs.Lines.{Breakers, form, spaces_for, table_in, right_table, breakers_in, right_breakers, message_in, right_message, count_in, right_count}
 use Rattle.drill_open.specs.Next.{Line}
