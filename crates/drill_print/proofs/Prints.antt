@@ -1,14 +1,14 @@
 -- Text that is printed one after the other is one text.
 use mathlib.Core.Path.{◌≡◌, refl, ap, ◌∙◌}
-use Prim.Native.Nat.{ℕ, zero, suc, ◌+◌, ◌*◌, ◌/◌, ◌%◌, ◌≤◌, ◌<◌}
+use Prim.Native.Nat.{ℕ, zero, suc, ◌+◌, ◌*◌, ◌/◌, ◌%◌, ◌<◌}
 use mathlib.Core.List.{List, [], ◌∷◌, ◌++◌}
 use native.Mathlib.Omega.{arith}
 use lib.ListN.{length, length-append, take, get_or}
 use native.Mathlib.Numerals.{add-one}
 use Rattle.std.proofs.lemmas.Bool.Decides.{nat_tests}
-use Rattle.octets.specs.Bytes.{pick, put}
+use Rattle.octets.specs.Bytes.{put}
 use Rattle.octets.proofs.Laws.{put_next}
-use Rattle.drill_words.specs.Numbers.{decimal, hex_of, letter}
+use Rattle.drill_words.specs.Numbers.{hex_of, letter}
 use Rattle.drill_print.specs.declared.Page.{Page}
 use Rattle.drill_print.specs.Printed.{Printed, Wrote}
 

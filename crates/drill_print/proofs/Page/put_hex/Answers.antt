@@ -1,7 +1,5 @@
-use mathlib.Core.Path.{◌≡◌}
 use native.Mathlib.Omega.{arith}
-use lib.ListN.{length, take, length-take}
-use Rattle.std.proofs.lemmas.List.{take_all}
+use lib.ListN.{take, length-take}
 use Rattle.drill_words.specs.Numbers.{hex_of}
 use Rattle.drill_print.proofs.Prints.{wrote_none, wrote_both, wrote_to, hex_length, hex_more}
 use Rattle.drill_print.proofs.Page.put_hex.Goals as goal

@@ -1,5 +1,5 @@
 use native.Mathlib.Omega.{arith}
-use lib.ListN.{length, take, length-take}
+use lib.ListN.{take, length-take}
 use Rattle.octets.specs.Bytes.{pick}
 use Rattle.drill_print.specs.Text.{outcome_text}
 use Rattle.drill_print.proofs.Prints.{wrote_both, wrote_to, hex_length}
