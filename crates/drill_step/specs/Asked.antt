@@ -7,8 +7,10 @@ use Rattle.table.specs.declared.Table.{Table}
 use Rattle.board_step.specs.Step.{Outcome, step_of}
 use Rattle.board_step.specs.declared.Stepped.{Stepped}
 use Rattle.drill_lines.specs.declared.Handed.{Handed}
-use Rattle.drill_lines.specs.declared.Handed.TheVariants.{Raw}
+use Rattle.drill_lines.specs.declared.Handed.TheVariants.{Send, Echo, Vote, Raw}
 use Rattle.drill_lines.specs.declared.Step.{Step}
+use Rattle.drill_lines.specs.Lines.{kind_in, from_in, to_in}
+use Rattle.drill_lines.specs.Read.{IsRaw}
 use Rattle.drill_boards.specs.Held.{Boards, zeros}
 use Rattle.drill_boards.specs.Room.{state_at, boards_in}
 use Rattle.drill_step.specs.declared.Room.{Room}
@@ -24,6 +26,20 @@ pub record Handing (b : Table) (message : List ℕ) (s : Step) : Type 0 where
   pub sends : is_board b s.from ≡ true
   pub takes : is_board b s.to ≡ true
   pub raw_few : length (raw_of s.handed) ≤ 1024
+
+-- what is handed over for a letter: `put_out_yet` and `record_for` take each letter but s, e and v (115, 101, 118) for raw bytes
+abbrev pub OfLetter : Handed → ℕ → Type 0
+OfLetter Send k = k ≡ 115
+OfLetter Echo k = k ≡ 101
+OfLetter Vote k = k ≡ 118
+OfLetter (Raw w) k = (k ≡ 115 → ⊥) × (k ≡ 101 → ⊥) × (k ≡ 118 → ⊥)
+
+-- s is the step that `turn_of` reads in line l, right or not: there is one for every line
+pub record Hands (s : Step) (l : List ℕ) : Type 0 where
+  pub kind_is : OfLetter s.handed (kind_in l)
+  pub raw_is : IsRaw s.handed l
+  pub from_is : s.from ≡ from_in l
+  pub to_is : s.to ≡ to_in l
 
 -- the step of board `to`, whose state stands in `states`
 unfoldable pub step_from : List ℕ → ℕ → ℕ → List ℕ → Outcome

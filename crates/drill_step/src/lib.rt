@@ -7,12 +7,12 @@ ghost use Rattle.octets.specs.Bytes.{put};
 ghost use Rattle.table.specs.Table.{is_board};
 ghost use Rattle.board.specs.Started.{start_of};
 ghost use Rattle.board_send.specs.Sent.{send_record};
-ghost use Rattle.drill_lines.specs.Read.{letter_of, IsStep};
+ghost use Rattle.drill_lines.specs.Read.{letter_of, IsRaw};
 ghost use Rattle.drill_print.specs.Printed.{delivery_of, size_of, shown_by};
 ghost use Rattle.drill_boards.specs.Held.{zeros};
 ghost use Rattle.drill_boards.specs.Room.{state_at, boards_in};
 ghost use Rattle.drill_step.specs.Boards.{fresh, record_for, turn, turn_of};
-ghost use Rattle.drill_step.specs.Asked.{Shaped, Handing, Stepping, DrillRoom, Cleared, SameRoom, boards_of};
+ghost use Rattle.drill_step.specs.Asked.{Shaped, Handing, Hands, Stepping, DrillRoom, Cleared, SameRoom, boards_of};
 
 use board_step::Stepped;
 use drill_lines::{Handed, Small, Step};
@@ -40,7 +40,7 @@ fn hand_send(b: Small, message: &[u8], to: usize, handed: &mut [u8]) -> usize
 // Stays: the length beside its buffer, since a part lent out of `handed` as the result is no plainer.
 fn hand(b: Small, message: &[u8], kept: &[u8], s: Step, handed: &mut [u8]) -> usize
     requires { Handing b.limits.table message.now s × (14336 ≤ length kept.now) × (out_bytes ≤ length handed.old) }
-    ensures { ((states l : List ℕ) → IsStep s.entry l
+    ensures { ((states l : List ℕ) → IsRaw s.entry.handed l
         → take result handed.new ≡ record_for b.limits.table message.now (boards_in states kept.now) (letter_of s.entry.handed) s.entry.from s.entry.to l)
         × (result ≤ out_bytes) }
 {
@@ -122,10 +122,11 @@ impl Room<'_> {
         }
     }
 
-    // One step of the drill: the record is handed over and taken, unless it was not yet put out.
+    // One step of the drill: the record is handed over and taken, unless it was not yet put out. It is the turn of each line that says the step,
+    // right or not.
     pub fn step(&mut self, b: Small, message: &[u8], s: Step) -> Shown
         requires { Handing b.limits.table message.now s × DrillRoom self.old }
-        ensures { ((l : List ℕ) → IsStep s.entry l → turn (shown_by result) (take (size_of result.outcome) self.new.delivery.now) (boards_of self.new)
+        ensures { ((l : List ℕ) → Hands s.entry l → turn (shown_by result) (take (size_of result.outcome) self.new.delivery.now) (boards_of self.new)
             ≡ turn_of b.limits.table message.now (boards_of self.old) l) × (result.answer ≤ 25) × (size_of result.outcome ≤ 64)
             × DrillRoom self.new × SameRoom self.old self.new }
     {

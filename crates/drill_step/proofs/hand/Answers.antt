@@ -49,4 +49,4 @@ returns-in-Raw c =
     let few = rw c.in-Raw.is at c.requires.0.raw_few in
     let short : length hex / 2 ≤ length c.args.handed.now = omega (arith, few, c.requires.2) in
     let front = raw_front (length hex / 2) hex c.args.handed.now c.decode.new.out refl short c.decode.ensures in
-    (λ states l s. let raw = rw c.in-Raw.is at s.raw_is in rw (c.in-Raw.is, ← raw) front, omega (arith, few))
+    (λ states l s. let raw = rw c.in-Raw.is at s in rw (c.in-Raw.is, ← raw) front, omega (arith, few))

@@ -1,4 +1,4 @@
-use Rattle.std.proofs.Common.{◌≡◌, refl, rules, length, replicate}
+use Rattle.std.proofs.Common.{refl, rules}
 use Rattle.drill_step.proofs.Steps.{filled}
 use Rattle.drill_step.proofs.Room.clear.Goals as goal
 

@@ -3,8 +3,9 @@ use lib.Seq.{length-take-le}
 use lib.ListN.{length-take}
 use mathlib.Core.Path.{refl, sym, ◌∙◌}
 use native.Mathlib.Omega.{arith}
+use Rattle.drill_step.specs.Asked.{boards_of}
 use Rattle.drill_step.specs.Boards.{turn_of}
-use Rattle.drill_step.proofs.Turns.{turn_missing, turn_taken, numbers}
+use Rattle.drill_step.proofs.Turns.{turn_missing, turn_taken, turn_letter, numbers}
 use Rattle.drill_step.proofs.Steps.{number_few, record_short, message_short, shape}
 use Rattle.drill_step.proofs.Room.step.Goals as goal
 
@@ -16,7 +17,8 @@ pub returns-then-not-is_out : goal.returns-then-not-is_out
 unfolding turn_of
 returns-then-not-is_out c =
     let a = c.args in let r = a.self.now in (
-      λ l s. rw (← s.kind_is, ← s.from_is, ← s.to_is) (turn_missing a.b.limits.table a.message.now r.states.now r.kept.now _ a.s.from a.s.to l (sym (c.is_out.ensures r.states.now) ∙ c.if-not-is_out.true)),
+      λ l s. rw (← s.from_is, ← s.to_is) (turn_missing a.b.limits.table a.message.now r.states.now r.kept.now _ a.s.from a.s.to l (sym (c.is_out.ensures r.states.now) ∙ c.if-not-is_out.true)
+          ∙ turn_letter a.b.limits.table a.message.now (boards_of r) a.s.handed _ a.s.from a.s.to l s.kind_is),
       omega arith,
       omega arith,
       c.requires.1,
@@ -57,11 +59,12 @@ returns c =
     let n = numbers a.b a.message.now a.s p.0 in
     let few = number_few r.states.now a.s.from a.s.to _ n.to_one n.to_few p.1.states_long x.result _ _ _ x.ensures in
     let short = message_short r.states.now a.s.from a.s.to _ n.to_one n.to_few p.1.states_long x.result _ _ _ x.ensures in (
-      λ l s. rw (← s.kind_is, ← s.from_is, ← s.to_is, c.outcome_of.ensures.0, c.outcome_of.ensures.1)
+      λ l s. rw (← s.from_is, ← s.to_is, c.outcome_of.ensures.0, c.outcome_of.ensures.1)
           (turn_taken a.b.limits.table a.message.now r.states.now r.kept.now _ a.s.from a.s.to l
           (sym (c.is_out.ensures r.states.now) ∙ c.if-not-is_out.false) _
-          (c.hand-n.ensures.0 r.states.now l s) x.result _ _ _ _ n.to_one n.to_few p.1.states_long x.ensures
-          c.keep.ensures c.act_of.result _ refl c.act_of.ensures),
+          (c.hand-n.ensures.0 r.states.now l s.raw_is) x.result _ _ _ _ n.to_one n.to_few p.1.states_long x.ensures
+          c.keep.ensures c.act_of.result _ refl c.act_of.ensures
+          ∙ turn_letter a.b.limits.table a.message.now (boards_of r) a.s.handed _ a.s.from a.s.to l s.kind_is),
       omega (arith, few),
       rw c.outcome_of.ensures.1 short,
       record {
