@@ -22,19 +22,8 @@ use Rattle.drill_print.specs.Text.{heading}
 use Rattle.drill_print.specs.Printed.{Wrote}
 use Rattle.drill_print.specs.declared.Page.{Page}
 use Rattle.drill_print.proofs.Prints.{wrote_both}
-use Rattle.drill_step.specs.declared.Room.{Room}
-use Rattle.drill_step.specs.Asked.{DrillRoom, Cleared}
 use Rattle.drill.specs.Drill.{printed_by, drill_of}
 use Rattle.drill.specs.Asked.{told, Tells, Ended, Long, DrillLeft}
-
-pub cleared_room : {r : Room} → Cleared r → DrillRoom r
-cleared_room x = record {
-  states_long = ap length x.states_zero ∙ zeros_length 35588;
-  kept_long = ap length x.kept_zero ∙ zeros_length 14336;
-  handed_long = ap length x.handed_zero ∙ zeros_length out_bytes;
-  out_long = ap length x.out_zero ∙ zeros_length out_bytes;
-  delivery_long = ap length x.delivery_zero ∙ zeros_length 64;
-}
 
 -- the heading, then what is printed by the lines, then that one is bad
 pub all_written : (input : List ℕ) (r : Result (Unit {0}) BadLine) {a b c d : Page} → Wrote heading a b → Tells (printed_by (opening1 input)) r b c → Wrote (told r) c d → Wrote (drill_of input) a d

@@ -24,13 +24,14 @@ fn run_steps(o: Opening, message: &[u8], room: &mut Room, page: &mut Page) -> Re
     ensures { Tells (steps_from o.entry.table.limits.table (numbered o.entry.breakers) message.now o.entry.count 1 o.entry.rest.now (boards_of room.old)) result page.old page.new
         × (page.new.at ≤ page.old.at + 154000) × DrillRoom room.new × SameRoom room.old room.new }
 {
+    let table = o.table.limits.table;
     let mut rest = o.rest;
     for k in 1..o.count + 1 {
         let (line, more) = next_line(rest, k + 4)?;
-        let step = drill_lines::step_in(o.table, o.breakers, line).ok_or(BadLine { line: k + 4 })?;
+        let step = drill_lines::step_in(table, o.breakers, line).ok_or(BadLine { line: k + 4 })?;
         let shown = room.step(o.table, message, step);
         let delivery = &mut *room.delivery;
-        page.put_line(k, step, shown, delivery);
+        page.put_line(k, line, shown, delivery);
         rest = more;
     }
     if rest.is_empty() {
@@ -40,9 +41,10 @@ fn run_steps(o: Opening, message: &[u8], room: &mut Room, page: &mut Page) -> Re
     }
 }
 
-// All lines, in a clean room.
+// All lines, in a room with no states and nothing put out.
 fn run(input: &[u8], message: &mut [u8], room: &mut Room, page: &mut Page) -> Result<(), BadLine>
-    requires { (length message.old ≡ 64) × DrillRoom room.old × Cleared room.old × (page.old.at + 154014 ≤ length page.old.text.now) }
+    requires { (length message.old ≡ 64) × DrillRoom room.old × (room.old.states.now ≡ zeros 35588) × (room.old.kept.now ≡ zeros 14336)
+        × (page.old.at + 154014 ≤ length page.old.text.now) }
     ensures { Tells (printed_by (opening1 input.now)) result page.old page.new
         × (page.new.at ≤ page.old.at + 154000) × DrillRoom room.new × SameRoom room.old room.new }
 {
@@ -57,7 +59,9 @@ fn run_all(input: &[u8], message: &mut [u8], room: &mut Room, page: &mut Page)
     requires { (length message.old ≡ 64) × DrillRoom room.old × (page.old.at ≡ 0) × (154051 ≤ length page.old.text.now) }
     ensures { Wrote (drill_of input.now) page.old page.new × (page.new.at ≤ 154051) × (message.new ≡ zeros 64) × Cleared room.new × SameRoom room.old room.new }
 {
-    room.clear();
+    // these two alone: a step writes each of the others before it reads it
+    room.states.fill(0);
+    room.kept.fill(0);
     page.put(b"step kind from to answer act outcome\n");
     if let Err(bad) = run(input, message, room, page) {
         page.put_bad(bad.line);

@@ -22,5 +22,5 @@ unfolding printed_by
 returns c =
     let r = c.run_steps.ensures in
     let o = c.in_ok-o.o in
-    let e : boards_of c.start.new.self ≡ fresh o.table.limits.table = ap (λ (k : List ℕ). boards_in c.start.new.self.states.now k) (c.start.ensures.3 ∙ c.requires.2.kept_zero) ∙ c.start.ensures.0 in
+    let e : boards_of c.start.new.self ≡ fresh o.table.limits.table = ap (λ (k : List ℕ). boards_in c.start.new.self.states.now k) (c.start.ensures.3 ∙ c.requires.3) ∙ c.start.ensures.0 in
     (rw (← c.in_ok-o.ensures, ← e) r.0, r.1, r.2, same_both c.start.ensures.2 r.3)
