@@ -25,6 +25,8 @@ pub struct Opening<'a> {
 }
 
 // The next line, which has that number, and those after it.
+// Never inline: alone, its search is one loop whose place suits the processor; drawn into a drill's five calls, each copy lies as it falls.
+#[inline(never)]
 pub fn next_line(rest: &[u8], line: usize) -> Result<(&[u8], &[u8]), BadLine>
     ensures { MatchResult result (λ x. Line rest.now x.0.now x.1.now) (λ e. (e.line ≡ line) × (length rest.now ≡ 0)) }
 {
