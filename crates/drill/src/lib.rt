@@ -31,7 +31,7 @@ fn run_steps(o: Opening, message: &[u8], room: &mut Room, page: &mut Page) -> Re
         let step = drill_lines::step_in(table, o.breakers, line).ok_or(BadLine { line: k + 4 })?;
         let shown = room.step(o.table, message, step);
         let delivery = &mut *room.delivery;
-        page.put_line(k, line, shown, delivery);
+        page.put_line_of(k, line, shown, delivery);
         rest = more;
     }
     if rest.is_empty() {

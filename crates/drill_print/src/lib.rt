@@ -1,12 +1,13 @@
 // What a drill prints, put into a lent buffer piece by piece.
 #![tactic(auto, using(crate::proofs::Prints::printing), unfolding(crate::specs::Text::outcome_text, crate::specs::Text::bad, drill_words::specs::Numbers::letter, drill_words::specs::Numbers::decimal, octets::specs::Bytes::pick))]
 
-ghost use Rattle.std.specs.Prelude.{◌≡◌, ◌+◌, ◌*◌, ◌≤◌, ◌<◌, length, take};
+ghost use Rattle.std.specs.Prelude.{◌≡◌, List, ℕ, ◌+◌, ◌*◌, ◌≤◌, ◌<◌, length, take};
 ghost use Rattle.drill_words.specs.Numbers.{digit, decimal, letter, hex_of};
+ghost use Rattle.drill_lines.specs.Read.{IsStep};
 ghost use Rattle.drill_print.specs.Text.{numbered, lettered, outcome_text, line_text, bad};
 ghost use Rattle.drill_print.specs.Printed.{Wrote, delivery_of, size_of, shown_by};
 
-use drill_lines::{kind_in, number_in};
+use drill_lines::{Step, kind_in, number_in};
 
 // A lent buffer, and how many of its bytes are printed.
 #[derive(Drop)]
@@ -118,8 +119,24 @@ impl Page<'_> {
         }
     }
 
-    // The line of step k, whose own line is `line`: its kind, from and to are printed as that line says them, right or not.
-    pub fn put_line(&mut self, k: usize, line: &[u8], s: Shown, message: &[u8])
+    // The line of step k, by the step itself: it is that of each line which says the step.
+    // Stays: beside `put_line_of`, for a caller who has the step and no line of it.
+    pub fn put_line(&mut self, k: usize, step: Step, s: Shown, message: &[u8])
+        requires { (self.old.at + 154 ≤ length self.old.text.now) × (size_of s.outcome ≤ 64) × (size_of s.outcome ≤ length message.now) }
+        ensures { ((l : List ℕ) → IsStep step.entry l → Wrote (line_text k l (shown_by s) (take (size_of s.outcome) message.now)) self.old self.new)
+            × (self.new.at ≤ self.old.at + 154) }
+    {
+        self.put_number(k);
+        self.put_letter(step.handed.letter());
+        self.put_number(step.from);
+        self.put_number(step.to);
+        self.put_number(s.answer);
+        self.put_letter(s.act);
+        self.put_outcome(s.outcome, message);
+    }
+
+    // The line of step k, by its own line, `line`: its kind, from and to are printed as that line says them, right or not.
+    pub fn put_line_of(&mut self, k: usize, line: &[u8], s: Shown, message: &[u8])
         requires { (self.old.at + 154 ≤ length self.old.text.now) × (size_of s.outcome ≤ 64) × (size_of s.outcome ≤ length message.now) }
         ensures { Wrote (line_text k line.now (shown_by s) (take (size_of s.outcome) message.now)) self.old self.new × (self.new.at ≤ self.old.at + 154) }
     {
@@ -140,5 +157,46 @@ impl Page<'_> {
         self.put(b"bad line ");
         self.put_decimal(n);
         self.put(b"\n");
+    }
+}
+
+#[cfg(test)]
+mod tests {
+    use super::*;
+    use drill_lines::Handed;
+
+    // Whether the line of step k is `want`, where board 1 hands over to board 2, the answer is 0, and the message delivered, if any, is 41.
+    fn line_is(k: usize, handed: Handed, act: u8, outcome: Outcome, want: &[u8]) -> bool
+        requires { size_of outcome ≤ 1 }
+    {
+        let mut text = [0; 154];
+        let mut page = Page {
+            text: &mut text,
+            at: 0,
+        };
+        let step = Step {
+            handed,
+            from: 1,
+            to: 2,
+        };
+        let shown = Shown {
+            answer: 0,
+            act,
+            outcome,
+        };
+        page.put_line(k, step, shown, b"A");
+        let at = page.at;
+        &text[..at] == want
+    }
+
+    // Each letter and each outcome.
+    #[test]
+    fn lines_of_steps(rt: HostRuntime) {
+        let (none, one, void) = (Outcome::Nothing, Outcome::Message(1), Outcome::Void);
+        let raw = Handed::Raw(b"0a");
+        assert!(rt; line_is(1, Handed::Send, b'e', none, b"1 s 1 2 0 e -\n"));
+        assert!(rt; line_is(20, Handed::Echo, b'v', none, b"20 e 1 2 0 v -\n"));
+        assert!(rt; line_is(300, Handed::Vote, b'-', one, b"300 v 1 2 0 - m41\n"));
+        assert!(rt; line_is(1000, raw, b'-', void, b"1000 r 1 2 0 - void\n"));
     }
 }

@@ -52,7 +52,7 @@ loop-k-preserved c =
     let o = c.args.o in let l = c.loop-k in let g = l.invariant in let s = c.step-shown in
     let right : (right_step o.table.limits.table (numbered o.breakers) c.in_ok-line.line.now ≡ true) × IsStep c.in_ok-step.step c.in_ok-line.line.now = rw c.in_ok-step.ensures.ok_part at c.step_in.ensures in
     going_more _ _ _ _ _ _ _ l.k l.rest.now l.room l.page g c.in_ok-line.line.now c.in_ok-line.more.now (shown_by s.result) _ _ _ (omega arith) (omega arith) c.in_ok-line.ensures right.0
-    (s.ensures.0 c.in_ok-line.line.now (hands right.1)) c.put_line.ensures.0 c.put_line.ensures.1 s.ensures.3 s.ensures.4
+    (s.ensures.0 c.in_ok-line.line.now (hands right.1)) c.put_line_of.ensures.0 c.put_line_of.ensures.1 s.ensures.3 s.ensures.4
 
 pub returns-then-is_empty : goal.returns-then-is_empty
 returns-then-is_empty c =
